@@ -17,17 +17,16 @@ use Rattle.edge.specs.Coordinates.{coordOf, biased}
 use Rattle.edge.proofs.Whole.{row-plus-left, row-minus-left, row-plus-right, row-minus-right, size-neg, size-added, added, pos-sub, neg-sub-suc}
 use Rattle.edge.proofs.Places.{back}
 use Rattle.symbol.specs.Symbols.{Offset, applied, movedOf, padsAt, padPoints, lowAt, highAt, boundsAt, Sound}
-use Rattle.symbol.specs.Steps.{row}
+use Rattle.symbol.specs.Steps.{Row, right, left, down, up}
 use Rattle.symbol.specs.declared.Point.{Point}
-use Rattle.symbol.proofs.Rows.{of-row, known-rows}
+use Rattle.symbol.proofs.Rows.{known-rows}
 
-size-row : (u v : ℤ) (k : ℕ) → natAbs u ≤ k → natAbs v ≤ k → (a b : ℤ) → T (row a b) → natAbs (a *ℤ u +ℤ b *ℤ v) ≤ k
-size-row u v k f g =
-    of-row (λ (a b : ℤ). natAbs (a *ℤ u +ℤ b *ℤ v) ≤ k)
-    (rw (row-plus-left u v) f)
-    (rw (row-minus-left u v, size-neg u) f)
-    (rw (row-plus-right u v) g)
-    (rw (row-minus-right u v, size-neg v) g)
+-- a row gives no greater number than those it is given
+size-row : (u v : ℤ) (k : ℕ) → natAbs u ≤ k → natAbs v ≤ k → {a b : ℤ} → Row a b → natAbs (a *ℤ u +ℤ b *ℤ v) ≤ k
+size-row u v k f g right = rw (row-plus-left u v) f
+size-row u v k f g left = rw (row-minus-left u v, size-neg u) f
+size-row u v k f g down = rw (row-plus-right u v) g
+size-row u v k f g up = rw (row-minus-right u v, size-neg v) g
 
 -- ---- the points of a symbol are at most 150 from the position in each coordinate
 abbrev pub near : Offset → Bool
@@ -52,10 +51,10 @@ module _ (o : RotMirror) (k : T (known o)) (q : Offset) (t : T (near q)) where
 
   -- and so they are turned
   turned-x : natAbs (applied o q .dx) ≤ 150
-  turned-x = size-row (q .dx) (q .dy) 150 in-x in-y (o .0) (o .1) (known-rows o k .0)
+  turned-x = size-row (q .dx) (q .dy) 150 in-x in-y (known-rows o k .0)
 
   turned-y : natAbs (applied o q .dy) ≤ 150
-  turned-y = size-row (q .dx) (q .dy) 150 in-x in-y (o .2) (o .3) (known-rows o k .1)
+  turned-y = size-row (q .dx) (q .dy) 150 in-x in-y (known-rows o k .1)
 
 -- ---- the sums of document 01
 pub record Exact (o : RotMirror) (x y : ℕ) (q : Offset) : Type 0 where

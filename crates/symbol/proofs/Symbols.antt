@@ -40,31 +40,36 @@ module _ (f : Point → Point) (d : Point) where
       (λ j. set (e j) i ((q ∙ ap f g) j)) ∙ next i l ∙ ap (λ (n : ℕ). mapFirst f n l) (sym (add-one i))
 
 -- ---- the refusals
+above-zero : {A : Type 0} (f g : ℕ → A) → ((k : ℕ) → f (suc k) ≡ g (suc k)) → (n : ℕ) → (n ≡ 0 → ⊥) → f n ≡ g n
+above-zero f g h zero n = absurd (n refl)
+above-zero f g h (suc k) n = h k
+
 module _ (kind : ℕ) (o : RotMirror) (x y : ℕ) where
   pub refuse : (p q r : Bool) → leb kind 2 ≡ p → known o ≡ q → (insideOf x && insideOf y) ≡ r → cond (p && q) (cond r 0 1) 4 ≡ refusalOf kind o x y
   unfolding refusalOf
   refuse p q r e f g = sym (λ i. cond (e i && f i) (cond (g i) 0 1) 4)
 
+  -- the tests, read
+  pub tests-placeable : T (leb kind 2 && known o) → T (insideOf x && insideOf y) → Placeable kind o x y
+  tests-placeable k t =
+      let tx = both-l (insideOf x) (insideOf y) t in
+      let ty = both-r (insideOf x) (insideOf y) t in
+      record {
+        of-kind = leb→le kind 2 (both-l (leb kind 2) (known o) k);
+        sound = record {
+          turned = both-r (leb kind 2) (known o) k;
+          left = leb→le 200 x (both-l (leb 200 x) (leb x 11800) tx);
+          right = leb→le x 11800 (both-r (leb 200 x) (leb x 11800) tx);
+          top = leb→le 200 y (both-l (leb 200 y) (leb y 11800) ty);
+          bottom = leb→le y 11800 (both-r (leb 200 y) (leb y 11800) ty);
+        };
+      }
+
   -- what reply 0 tells
   pub placeable : refusalOf kind o x y ≡ 0 → Placeable kind o x y
   unfolding refusalOf
-  placeable = go (leb kind 2 && known o) (insideOf x && insideOf y) make
+  placeable = go (leb kind 2 && known o) (insideOf x && insideOf y) tests-placeable
     where
-      make : T (leb kind 2 && known o) → T (insideOf x && insideOf y) → Placeable kind o x y
-      make k t =
-          let tx = both-l (insideOf x) (insideOf y) t in
-          let ty = both-r (insideOf x) (insideOf y) t in
-          record {
-            of-kind = leb→le kind 2 (both-l (leb kind 2) (known o) k);
-            sound = record {
-              turned = both-r (leb kind 2) (known o) k;
-              left = leb→le 200 x (both-l (leb 200 x) (leb x 11800) tx);
-              right = leb→le x 11800 (both-r (leb 200 x) (leb x 11800) tx);
-              top = leb→le 200 y (both-l (leb 200 y) (leb y 11800) ty);
-              bottom = leb→le y 11800 (both-r (leb 200 y) (leb y 11800) ty);
-            };
-          }
-
       go : (p r : Bool) → (T p → T r → Placeable kind o x y) → _≡_ {A = ℕ} (cond p (cond r 0 1) 4) 0 → Placeable kind o x y
       go true true m e = m tt tt
       go true false m e = absurd (let z : ⊥ = omega arith in z)
@@ -80,11 +85,7 @@ module _ (kind : ℕ) (o : RotMirror) (x y : ℕ) where
   -- ---- the answers: zeros where the call is refused, else what the drawing of a lawful component gives
   pub pads-refused : (r : ℕ) → r ≡ refusalOf kind o x y → (r ≡ 0 → ⊥) → _≡_ {A = PadsReply} (record { reply = r; pads = block [] }) (padsOf kind o x y)
   unfolding padsOf
-  pads-refused r e n = go r n ∙ ap (λ (k : ℕ). padsFor k (padBlock kind o x y)) e
-    where
-      go : (r : ℕ) → (r ≡ 0 → ⊥) → _≡_ {A = PadsReply} (record { reply = r; pads = block [] }) (padsFor r (padBlock kind o x y))
-      go zero n = absurd (n refl)
-      go (suc r) n = refl
+  pads-refused r e n = let f : ℕ → PadsReply = λ k. padsFor k (padBlock kind o x y) in above-zero (λ k. record { reply = k; pads = block [] }) f (λ k. refl) r n ∙ ap f e
 
   pub pads-given : (p : PadBlock) → refusalOf kind o x y ≡ 0 → p ≡ padBlock kind o x y → _≡_ {A = PadsReply} (record { reply = 0; pads = p }) (padsOf kind o x y)
   unfolding padsOf
@@ -92,11 +93,7 @@ module _ (kind : ℕ) (o : RotMirror) (x y : ℕ) where
 
   pub box-refused : (r : ℕ) → r ≡ refusalOf kind o x y → (r ≡ 0 → ⊥) → _≡_ {A = BoundsReply} (record { reply = r; bounds = record { low = unused; high = unused } }) (aabbOf kind o x y)
   unfolding aabbOf
-  box-refused r e n = go r n ∙ ap (λ (k : ℕ). boundsFor k (boundsAt kind o x y)) e
-    where
-      go : (r : ℕ) → (r ≡ 0 → ⊥) → _≡_ {A = BoundsReply} (record { reply = r; bounds = record { low = unused; high = unused } }) (boundsFor r (boundsAt kind o x y))
-      go zero n = absurd (n refl)
-      go (suc r) n = refl
+  box-refused r e n = let f : ℕ → BoundsReply = λ k. boundsFor k (boundsAt kind o x y) in above-zero (λ k. record { reply = k; bounds = boxOf unused unused }) f (λ k. refl) r n ∙ ap f e
 
   pub box-given : (b : Bounds) → refusalOf kind o x y ≡ 0 → b ≡ boundsAt kind o x y → _≡_ {A = BoundsReply} (record { reply = 0; bounds = b }) (aabbOf kind o x y)
   unfolding aabbOf

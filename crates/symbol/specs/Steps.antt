@@ -1,14 +1,9 @@
 -- What the functions below the calls return: the tables as the code holds them, each number 200 more so that none is negative, and their map.
 use Prim.Native.Nat.{ℕ, zero, suc, _≤_}
-use mathlib.Core.Bool.{Bool, _&&_, _||_, cond}
 use mathlib.Core.List.{List, [], _∷_}
 use lib.IntN.{ℤ, pos, negsuc, subℕ}
-use Rattle.orientation.specs.Orientations.{eqZ}
-use Rattle.edge.specs.Coordinates.{coordOf, biased}
 use Rattle.symbol.specs.Symbols.{Offset, off, unused}
-use Rattle.symbol.specs.Answers.{positioned, origin}
 use Rattle.symbol.specs.declared.Point.{Point}
-use Rattle.symbol.specs.declared.Position.{Position}
 use Rattle.symbol.specs.declared.PadBlock.{PadBlock}
 use Rattle.symbol.specs.declared.Bounds.{Bounds}
 
@@ -40,13 +35,16 @@ pub record Near (q : Point) : Type 0 where
   pub in-y : q .y ≤ 400
 
 -- a row of an orientation: one of the two numbers is 0 and the other is 1 or -1
-unfoldable pub row : ℤ → ℤ → Bool
-row a b = (eqZ a (pos 0) && (eqZ b (pos 1) || eqZ b (negsuc 0))) || ((eqZ a (pos 1) || eqZ a (negsuc 0)) && eqZ b (pos 0))
+pub data Row : ℤ → ℤ → Type 0 where
+  right : Row (pos 1) (pos 0)
+  left : Row (negsuc 0) (pos 0)
+  down : Row (pos 0) (pos 1)
+  up : Row (pos 0) (negsuc 0)
 
--- a component's coordinate as rows hold it, or 0, which is no position
-unfoldable pub heldOf : ℤ → ℕ
-heldOf z = cond (positioned z) (biased z) 0
-
--- the coordinates of a point that is used, else zeros
-abbrev pub shownOf : Point → Bool → Position
-shownOf p used = cond used (record { x = coordOf (p .x); y = coordOf (p .y) }) origin
+-- what a coordinate of a symbol's point asks: a row of an orientation, a stored point, and a position
+pub record Along (a b : ℤ) (dx dy p : ℕ) : Type 0 where
+  pub of-row : Row a b
+  pub near-x : dx ≤ 400
+  pub near-y : dy ≤ 400
+  pub low : 200 ≤ p
+  pub high : p ≤ 11800

@@ -1,14 +1,11 @@
-// The symbols: pads and boxes of components, turned and moved, in the numbers that rows hold and by their coordinates.
+// The symbols: pads and boxes of components, turned and moved, in the numbers that rows hold.
 ghost use mathlib.Core.Path.{_≡_};
 ghost use Prim.Native.Nat.{ℕ, min, max, _≤_};
-ghost use lib.Dec.{T};
 ghost use lib.IntN.{subℕ, _+ℤ_, _*ℤ_};
 ghost use lib.ListN.{getD};
 ghost use Rattle.edge.specs.Coordinates.{coordOf, biased};
 ghost use Rattle.symbol.specs.Symbols.{Sound, Placeable, canTurn, movedOf, unused, padBlock, boxOf, boundsAt, refusalOf, padsOf, aabbOf, touchesOf};
-ghost use Rattle.symbol.specs.Answers.{componentPadsOf, componentBoxOf};
-ghost use Rattle.symbol.specs.Steps.{offsetOf, storedPads, storedBox, mapFirst, Near, row, heldOf, shownOf};
-use edge::Placed;
+ghost use Rattle.symbol.specs.Steps.{offsetOf, storedPads, storedBox, mapFirst, Near, Along};
 use orientation::RotMirror;
 
 // A point as rows hold it: each coordinate and 6,000 more. A row of zeros is no point.
@@ -50,7 +47,7 @@ pub fn can_turn(kind: u8) -> bool
 
 // One coordinate of a symbol's point, a * dx + b * dy from the position p, where dx and dy are given as 200 more.
 fn along(a: i8, b: i8, dx: u16, dy: u16, p: u16) -> u16
-    requires { ⌜ T (row a b) × ((dx ≤ 400) × ((dy ≤ 400) × ((200 ≤ p) × (p ≤ 11800)))) ⌝ }
+    requires { ⌜ Along a b dx dy p ⌝ }
     ensures { λ r. ⌜ r ≡ biased (coordOf p +ℤ (a *ℤ subℕ dx 200 +ℤ b *ℤ subℕ dy 200)) ⌝ }
 {
     if a == 1 {
@@ -259,81 +256,4 @@ pub fn touches(a: Bounds, b: Bounds) -> bool
 {
     (a.low.x <= b.high.x)
         & ((b.low.x <= a.high.x) & ((a.low.y <= b.high.y) & (b.low.y <= a.high.y)))
-}
-
-// A point by its coordinates.
-pub struct Position {
-    pub x: i32,
-    pub y: i32,
-}
-
-// The pads of a component by their coordinates: three points with their count, zeros behind it; a refusal has zeros for every number but the reply.
-pub struct PadsAnswer {
-    pub reply: u8,
-    pub points: [Position; 3],
-    pub count: usize,
-}
-
-// The box of a component by its coordinates; a refusal has zeros for every number but the reply.
-pub struct BoxAnswer {
-    pub reply: u8,
-    pub low: Position,
-    pub high: Position,
-}
-
-// A component's coordinate as rows hold it, or 0, which is no position.
-fn held(x: i32) -> u16
-    ensures { λ r. ⌜ r ≡ heldOf x ⌝ }
-{
-    match edge::place_component(x) {
-        Placed::Inside(n) => n,
-        Placed::Outside => 0,
-    }
-}
-
-// The coordinates of a point that is used, else zeros.
-fn shown(p: Point, used: bool) -> Position
-    ensures { λ r. ⌜ r ≡ shownOf p used ⌝ }
-{
-    if used {
-        Position {
-            x: edge::coordinate(p.x),
-            y: edge::coordinate(p.y),
-        }
-    } else {
-        Position { x: 0, y: 0 }
-    }
-}
-
-// The pads of a component at (x, y), by their coordinates.
-pub fn component_pads(kind: u8, o: RotMirror, x: i32, y: i32) -> PadsAnswer
-    ensures { λ r. ⌜ r ≡ componentPadsOf kind o x y ⌝ }
-{
-    let r = pads(kind, o, held(x), held(y));
-    let reply = r.reply;
-    let b = r.pads;
-    let ps = b.points;
-    let count = b.count;
-    let first = shown(ps[0], 0 < count);
-    let second = shown(ps[1], 1 < count);
-    let third = shown(ps[2], 2 < count);
-    PadsAnswer {
-        reply,
-        points: [first, second, third],
-        count,
-    }
-}
-
-// The box of a component at (x, y), by its coordinates.
-pub fn component_box(kind: u8, o: RotMirror, x: i32, y: i32) -> BoxAnswer
-    ensures { λ r. ⌜ r ≡ componentBoxOf kind o x y ⌝ }
-{
-    let r = aabb(kind, o, held(x), held(y));
-    let reply = r.reply;
-    let b = r.bounds;
-    let l = b.low;
-    let h = b.high;
-    let low = shown(l, reply == 0);
-    let high = shown(h, reply == 0);
-    BoxAnswer { reply, low, high }
 }

@@ -1,11 +1,11 @@
--- `symbol::shown` meets its contract: the coordinates are read as they were written.
+-- `component::shown` meets its contract: the coordinates are read as they were written.
 use borrow.Author.Needs.{needs}
 use mathlib.Core.Path.{sym, ap, _∙_}
 use mir.Facts.{toZ-ofZ}
 use mir.Syntax.{w32}
-use Rattle.symbol.specs.Steps.{shownOf}
-use Rattle.symbol.proofs.shown.Statement.{statement}
-use Rattle.symbol.proofs.shown.Tie as tie
+use Rattle.component.specs.Answers.{shownOf}
+use Rattle.component.proofs.shown.Statement.{statement}
+use Rattle.component.proofs.shown.Tie as tie
 
 coordinate-requires : tie.Need-coordinate-requires
 coordinate-requires c κs = search needs

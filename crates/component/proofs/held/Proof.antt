@@ -1,8 +1,8 @@
--- `symbol::held` meets its contract: by the two cases of what `place_component` returns.
+-- `component::held` meets its contract: by the two cases of what `place_component` returns.
 use borrow.Author.Needs.{needs}
-use Rattle.symbol.proofs.Answers.{held-inside, held-outside}
-use Rattle.symbol.proofs.held.Statement.{statement}
-use Rattle.symbol.proofs.held.Tie as tie
+use Rattle.component.proofs.Answers.{held-inside, held-outside}
+use Rattle.component.proofs.held.Statement.{statement}
+use Rattle.component.proofs.held.Tie as tie
 
 place-component-requires : tie.Need-place-component-requires
 place-component-requires c κs = search needs

@@ -8,10 +8,12 @@ use lib.Signed.{leZ}
 use lib.ListN.{length, take}
 use Rattle.orientation.specs.Orientations.{known}
 use Rattle.orientation.specs.declared.RotMirror.{RotMirror}
+use Rattle.edge.specs.Coordinates.{coordOf, biased}
+use Rattle.symbol.specs.declared.Point.{Point}
 use Rattle.symbol.specs.Symbols.{Offset, applied, padsAt, lowAt, highAt}
-use Rattle.symbol.specs.declared.Position.{Position}
-use Rattle.symbol.specs.declared.PadsAnswer.{PadsAnswer}
-use Rattle.symbol.specs.declared.BoxAnswer.{BoxAnswer}
+use Rattle.component.specs.declared.Position.{Position}
+use Rattle.component.specs.declared.PadsAnswer.{PadsAnswer}
+use Rattle.component.specs.declared.BoxAnswer.{BoxAnswer}
 
 abbrev pub origin : Position
 origin = record { x = pos 0; y = pos 0 }
@@ -48,3 +50,13 @@ noBox n = record { reply = n; low = origin; high = origin }
 
 unfoldable pub componentBoxOf : ℕ → RotMirror → ℤ → ℤ → BoxAnswer
 componentBoxOf kind o x y = cond (leb kind 2 && known o) (cond (positioned x && positioned y) (spanned (positionOf o x y (lowAt kind)) (positionOf o x y (highAt kind))) (noBox 1)) (noBox 4)
+
+-- ---- what the functions below the calls return
+
+-- a component's coordinate as rows hold it, or 0, which is no position
+unfoldable pub heldOf : ℤ → ℕ
+heldOf z = cond (positioned z) (biased z) 0
+
+-- the coordinates of a point that is used, else zeros
+abbrev pub shownOf : Point → Bool → Position
+shownOf p used = cond used (record { x = coordOf (p .x); y = coordOf (p .y) }) origin
