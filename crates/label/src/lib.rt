@@ -15,6 +15,13 @@ pub struct Held {
     pub bytes: [u8; 16],
 }
 
+// Whether a label may have the byte.
+fn is_graphic(b: u8) -> bool
+    ensures { λ r. ⌜ r ≡ graphic b ⌝ }
+{
+    (0x21 <= b) & (b <= 0x7e)
+}
+
 // The label that a slice of any length gives.
 pub fn label_of(s: &[u8]) -> Label
     ensures { λ r. ⌜ r ≡ labelOf (now (s .entry)) ⌝ }
@@ -35,13 +42,6 @@ pub fn label_of(s: &[u8]) -> Label
         bytes,
         length: s.len(),
     }
-}
-
-// Whether a label may have the byte.
-fn is_graphic(b: u8) -> bool
-    ensures { λ r. ⌜ r ≡ graphic b ⌝ }
-{
-    (0x21 <= b) & (b <= 0x7e)
 }
 
 // The label as rows hold it, or the refusal: too long, or with another byte than 0x21 to 0x7E.
@@ -107,13 +107,11 @@ fn bytes_ok(bytes: &[u8]) -> bool
 {
     let mut i = 0;
     while i < bytes.len() {
-        if bytes[i] < 0x21 {
+        if is_graphic(bytes[i]) {
+            i += 1;
+        } else {
             return zeros_from(bytes, i);
         }
-        if 0x7e < bytes[i] {
-            return false;
-        }
-        i += 1;
     }
     true
 }

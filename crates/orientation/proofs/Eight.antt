@@ -118,14 +118,15 @@ small-known o t =
     ((one, nil, nil, one), ((nil, minus, one, nil), ((minus, nil, nil, minus), ((nil, one, minus, nil), ((minus, nil, nil, one), ((nil, minus, minus, nil), ((one, nil, nil, minus), ((nil, one, one, nil), tt))))))))
     o t
 
-pub smalls : (o : RotMirror) (r : Bool) → r ≡ known o → r ≡ true → Smalls o
-smalls o r e t = small-known o (subst T (sym t ∙ e) tt)
+-- where the code has found that o is known, or not
+module _ (o : RotMirror) {r : Bool} (e : r ≡ known o) where
+  pub smalls : r ≡ true → Smalls o
+  smalls t = small-known o (subst T (sym t ∙ e) tt)
 
--- a turn of one of the eight, and of any other
-pub turned : (f : RotMirror → RotMirror) (o : RotMirror) (r : Bool) → r ≡ known o → r ≡ true → {p : RotMirror} → p ≡ f o → done p ≡ turnedBy f o
-unfolding turnedBy
-turned f o r e t q = ap done q ∙ sym (λ i. cond ((sym e ∙ t) i) (done (f o)) refused)
+  pub turned : (f : RotMirror → RotMirror) → r ≡ true → {p : RotMirror} → p ≡ f o → done p ≡ turnedBy f o
+  unfolding turnedBy
+  turned f t q = ap done q ∙ sym (λ i. cond ((sym e ∙ t) i) (done (f o)) refused)
 
-pub unturned : (f : RotMirror → RotMirror) (o : RotMirror) (r : Bool) → r ≡ known o → r ≡ false → refused ≡ turnedBy f o
-unfolding turnedBy
-unturned f o r e t = sym (λ i. cond ((sym e ∙ t) i) (done (f o)) refused)
+  pub unturned : (f : RotMirror → RotMirror) → r ≡ false → refused ≡ turnedBy f o
+  unfolding turnedBy
+  unturned f t = sym (λ i. cond ((sym e ∙ t) i) (done (f o)) refused)

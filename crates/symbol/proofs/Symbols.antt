@@ -21,23 +21,22 @@ use borrow.Author.Tests.{le-leb}
 use Rattle.lists.proofs.Tests.{both-l, both-r}
 use Rattle.orientation.proofs.Turns.{is-known}
 
+-- ---- a table of three kinds, at a kind that is neither of the first two
+pub third : {A : Type 0} (f : ℕ → A) → ((n : ℕ) → f 2 ≡ f (suc (suc n))) → (k : ℕ) → (k ≡ 0 → ⊥) → (k ≡ 1 → ⊥) → f 2 ≡ f k
+third f h zero a b = absurd (a refl)
+third f h (suc zero) a b = absurd (b refl)
+third f h (suc (suc n)) a b = h n
+
 -- ---- the first n of a list, mapped
 module _ (f : Point → Point) (d : Point) where
-  pub still : (i : ℕ) (l : List Point) → getD (mapFirst f i l) i d ≡ getD l i d
-  still zero l = refl
-  still (suc i) [] = refl
-  still (suc i) (p ∷ l) = still i l
-
   next : (i : ℕ) (l : List Point) → set (mapFirst f i l) i (f (getD l i d)) ≡ mapFirst f (suc i) l
   next zero [] = refl
   next zero (p ∷ l) = refl
   next (suc i) [] = refl
   next (suc i) (p ∷ l) = ap {B = List Point} (λ r. f p ∷ r) (next i l)
 
-  pub again : (i : ℕ) (l out : List Point) (r : Point) → out ≡ mapFirst f i l → r ≡ f (getD out i d) → set out i r ≡ mapFirst f (i + 1) l
-  again i l out r e q =
-      let g : getD out i d ≡ getD l i d = ap (λ (m : List Point). getD m i d) e ∙ still i l in
-      (λ j. set (e j) i ((q ∙ ap f g) j)) ∙ next i l ∙ ap (λ (n : ℕ). mapFirst f n l) (sym (add-one i))
+  pub again : (i : ℕ) (l : List Point) {out : List Point} {r : Point} → out ≡ mapFirst f i l → r ≡ f (getD l i d) → set out i r ≡ mapFirst f (i + 1) l
+  again i l e q = (λ j. set (e j) i (q j)) ∙ next i l ∙ (λ j. mapFirst f (sym (add-one i) j) l)
 
 -- ---- the refusals
 above-zero : {A : Type 0} (f g : ℕ → A) → ((k : ℕ) → f (suc k) ≡ g (suc k)) → (n : ℕ) → (n ≡ 0 → ⊥) → f n ≡ g n

@@ -2,7 +2,9 @@
 use Prim.Native.Nat.{ℕ, zero, suc, _≤_}
 use mathlib.Core.List.{List, [], _∷_}
 use lib.IntN.{ℤ, pos, negsuc, subℕ}
-use Rattle.symbol.specs.Symbols.{Offset, off, unused}
+use lib.ListN.{getD}
+use Rattle.orientation.specs.declared.RotMirror.{RotMirror}
+use Rattle.symbol.specs.Symbols.{Offset, off, unused, Sound}
 use Rattle.symbol.specs.declared.Point.{Point}
 use Rattle.symbol.specs.declared.PadBlock.{PadBlock}
 use Rattle.symbol.specs.declared.Bounds.{Bounds}
@@ -33,6 +35,12 @@ mapFirst f (suc n) (p ∷ ps) = f p ∷ mapFirst f n ps
 pub record Near (q : Point) : Type 0 where
   pub in-x : q .x ≤ 400
   pub in-y : q .y ≤ 400
+
+-- what mapping asks: at most three points, one of the eight and a position, and stored points
+pub record Mapping (points : List Point) (count : ℕ) (o : RotMirror) (x y : ℕ) : Type 0 where
+  pub few : count ≤ 3
+  pub sound : Sound o x y
+  pub near : (k : ℕ) → Near (getD points k unused)
 
 -- a row of an orientation: one of the two numbers is 0 and the other is 1 or -1
 pub data Row : ℤ → ℤ → Type 0 where

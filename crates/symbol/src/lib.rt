@@ -1,11 +1,10 @@
 // The symbols: pads and boxes of components, turned and moved, in the numbers that rows hold.
 ghost use mathlib.Core.Path.{_≡_};
-ghost use Prim.Native.Nat.{ℕ, min, max, _≤_};
+ghost use Prim.Native.Nat.{min, max};
 ghost use lib.IntN.{subℕ, _+ℤ_, _*ℤ_};
-ghost use lib.ListN.{getD};
 ghost use Rattle.edge.specs.Coordinates.{coordOf, biased};
-ghost use Rattle.symbol.specs.Symbols.{Sound, Placeable, canTurn, movedOf, unused, padBlock, boxOf, boundsAt, refusalOf, padsOf, aabbOf, touchesOf};
-ghost use Rattle.symbol.specs.Steps.{offsetOf, storedPads, storedBox, mapFirst, Near, Along};
+ghost use Rattle.symbol.specs.Symbols.{Sound, Placeable, canTurn, movedOf, padBlock, boxOf, boundsAt, refusalOf, padsOf, aabbOf, touchesOf};
+ghost use Rattle.symbol.specs.Steps.{offsetOf, storedPads, storedBox, mapFirst, Near, Along, Mapping};
 use orientation::RotMirror;
 
 // A point as rows hold it: each coordinate and 6,000 more. A row of zeros is no point.
@@ -142,13 +141,13 @@ fn symbol_box(kind: u8) -> Bounds
 
 // The first count points, mapped through orientation and position; those behind stay.
 fn mapped(points: [Point; 3], count: usize, o: RotMirror, x: u16, y: u16) -> [Point; 3]
-    requires { ⌜ (count ≤ 3) × (Sound o x y × ((k : ℕ) → Near (getD points k unused))) ⌝ }
+    requires { ⌜ Mapping points count o x y ⌝ }
     ensures { λ r. ⌜ r ≡ mapFirst (λ q. movedOf o x y (offsetOf q)) count points ⌝ }
 {
     let mut out = points;
     let mut i = 0;
     while i < count {
-        let q = out[i];
+        let q = points[i];
         out[i] = moved(o, q, x, y);
         i += 1;
     }

@@ -14,10 +14,10 @@ enum-told : tie.Need-enum-told
 enum-told c = search needs
 
 returns : tie.Need-returns
-returns c = held-inside (c .before .before .before .before .args .x) (c .before .before .before .before .fits .x) (c .before .before .before .place-component .result) (c .before .before .before .place-component .ensures) (c .before .n .given .0 .0) (c .before .n .given .1)
+returns c = let p = c .before .before .before in held-inside (p .before .args .x) (p .before .fits .x) (p .place-component .result) (p .place-component .ensures) (c .before .n .given .0 .0) (c .before .n .given .1)
 
 returns-2 : tie.Need-returns-2
-returns-2 c = held-outside (c .before .before .before .args .x) (c .before .before .before .fits .x) (c .before .before .place-component .result) (c .before .before .place-component .ensures) (c .enum-told .given .1)
+returns-2 c = let p = c .before .before in held-outside (p .before .args .x) (p .before .fits .x) (p .place-component .result) (p .place-component .ensures) (c .enum-told .given .1)
 
 pub held-spec : {M : Type 1} → statement M
 held-spec = tie.close (tie.spec place-component-requires enum-known-n enum-told returns returns-2)

@@ -14,7 +14,10 @@ coordinate-requires-2 : tie.Need-coordinate-requires-2
 coordinate-requires-2 c κs = search needs
 
 returns : tie.Need-returns
-returns c = (λ i. record { x = (toZ-ofZ {w = w32} {z = c .before .coordinate .result} (record { sfits = c .before .coordinate .ok }) ∙ c .before .coordinate .ensures) i; y = (toZ-ofZ {w = w32} {z = c .coordinate2 .result} (record { sfits = c .coordinate2 .ok }) ∙ c .coordinate2 .ensures) i })
+returns c =
+    let a = c .before .coordinate in
+    let b = c .coordinate2 in
+    (λ i. record { x = (toZ-ofZ {w = w32} {z = a .result} (record { sfits = a .ok }) ∙ a .ensures) i; y = (toZ-ofZ {w = w32} {z = b .result} (record { sfits = b .ok }) ∙ b .ensures) i })
     ∙ sym (ap (shownOf (c .before .before .before .args .p)) (c .before .before .if1 .taken))
 
 returns-2 : tie.Need-returns-2

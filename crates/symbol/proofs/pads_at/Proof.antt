@@ -11,7 +11,7 @@ mapped-requires : tie.Need-mapped-requires
 mapped-requires c κs =
     let s = c .before .before in
     let b = c .before .symbol-pads in
-    (few (s .args .kind) (b .result) (b .ensures), (s .pre .sound, pads-near (s .args .kind) (b .result) (b .ensures)))
+    record { few = few (s .args .kind) (b .result) (b .ensures); sound = s .pre .sound; near = pads-near (s .args .kind) (b .result) (b .ensures) }
 
 returns : tie.Need-returns
 returns c =

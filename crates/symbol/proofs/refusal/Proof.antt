@@ -10,7 +10,7 @@ use Rattle.symbol.proofs.refusal.Statement.{statement}
 use Rattle.symbol.proofs.refusal.Tie as tie
 
 returns : tie.Need-returns
-returns c = refuse (c .before .args .kind) (c .before .args .o) (c .before .args .x) (c .before .args .y) false (known (c .before .args .o)) (insideOf (c .before .args .x) && insideOf (c .before .args .y)) (lt-leb (c .before .args .kind) 2 (c .if1 .taken)) refl refl
+returns c = let s = c .before .args in refuse (s .kind) (s .o) (s .x) (s .y) false (known (s .o)) (insideOf (s .x) && insideOf (s .y)) (lt-leb (s .kind) 2 (c .if1 .taken)) refl refl
 
 is-known-requires : tie.Need-is-known-requires
 is-known-requires c κs = search needs
@@ -22,13 +22,24 @@ is-position-requires-2 : tie.Need-is-position-requires-2
 is-position-requires-2 c κs = search needs
 
 returns-2 : tie.Need-returns-2
-returns-2 c = refuse (c .before .before .before .before .before .before .args .kind) (c .before .before .before .before .before .before .args .o) (c .before .before .before .before .before .before .args .x) (c .before .before .before .before .before .before .args .y) true true true (le-leb (c .before .before .before .before .before .before .args .kind) 2 (c .before .before .before .before .before .if1 .left)) (sym (c .before .before .before .before .is-known .ensures) ∙ c .before .before .before .if2 .taken) (sym (λ i. c .before .before .is-position .ensures i && c .before .is-position2 .ensures i) ∙ c .if3 .taken)
+returns-2 c =
+    let k = c .before .before .before .before in
+    let s = k .before .before .args in
+    refuse (s .kind) (s .o) (s .x) (s .y) true true true (le-leb (s .kind) 2 (k .before .if1 .left)) (sym (k .is-known .ensures) ∙ c .before .before .before .if2 .taken)
+    (sym (λ i. c .before .before .is-position .ensures i && c .before .is-position2 .ensures i) ∙ c .if3 .taken)
 
 returns-3 : tie.Need-returns-3
-returns-3 c = refuse (c .before .before .before .before .before .before .args .kind) (c .before .before .before .before .before .before .args .o) (c .before .before .before .before .before .before .args .x) (c .before .before .before .before .before .before .args .y) true true false (le-leb (c .before .before .before .before .before .before .args .kind) 2 (c .before .before .before .before .before .if1 .left)) (sym (c .before .before .before .before .is-known .ensures) ∙ c .before .before .before .if2 .taken) (sym (λ i. c .before .before .is-position .ensures i && c .before .is-position2 .ensures i) ∙ c .if3 .left)
+returns-3 c =
+    let k = c .before .before .before .before in
+    let s = k .before .before .args in
+    refuse (s .kind) (s .o) (s .x) (s .y) true true false (le-leb (s .kind) 2 (k .before .if1 .left)) (sym (k .is-known .ensures) ∙ c .before .before .before .if2 .taken)
+    (sym (λ i. c .before .before .is-position .ensures i && c .before .is-position2 .ensures i) ∙ c .if3 .left)
 
 returns-4 : tie.Need-returns-4
-returns-4 c = refuse (c .before .before .before .args .kind) (c .before .before .before .args .o) (c .before .before .before .args .x) (c .before .before .before .args .y) true false (insideOf (c .before .before .before .args .x) && insideOf (c .before .before .before .args .y)) (le-leb (c .before .before .before .args .kind) 2 (c .before .before .if1 .left)) (sym (c .before .is-known .ensures) ∙ c .if2 .left) refl
+returns-4 c =
+    let k = c .before in
+    let s = k .before .before .args in
+    refuse (s .kind) (s .o) (s .x) (s .y) true false (insideOf (s .x) && insideOf (s .y)) (le-leb (s .kind) 2 (k .before .if1 .left)) (sym (k .is-known .ensures) ∙ c .if2 .left) refl
 
 pub refusal-spec : {M : Type 1} → statement M
 refusal-spec =
