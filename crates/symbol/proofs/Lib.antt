@@ -1,4 +1,5 @@
 pub mod Rows
+pub mod Tables
 pub mod Symbols
 pub mod Exact
 pub mod Boxes

@@ -1,44 +1,22 @@
--- Pads and boxes: the refusals, the map over the first points, and the code's tables against the document's.
-use mathlib.Core.Path.{_≡_, refl, sym, ap, _∙_, subst}
-use Prim.Native.Nat.{ℕ, zero, suc, _+_, _≤_}
+-- The refusals: what the tests of a kind, an orientation and a position tell, and the answers of `pads` and `aabb`.
+use mathlib.Core.Path.{_≡_, refl, sym, ap, _∙_}
+use Prim.Native.Nat.{ℕ, zero, suc, _≤_}
 use native.Mathlib.Omega.{arith}
-use native.Mathlib.Numerals.{add-one}
 use mathlib.Core.Bool.{Bool, true, false, _&&_, cond}
-use mathlib.Core.List.{List, [], _∷_}
+use mathlib.Core.List.{[]}
 use lib.Dec.{T, leb, leb→le}
-use lib.ListN.{getD, set}
+use borrow.Author.Tests.{le-leb}
+use Rattle.lists.proofs.Tests.{both-l, both-r}
 use Rattle.orientation.specs.Orientations.{known}
-use Rattle.edge.specs.Coordinates.{insideOf}
-use Rattle.symbol.specs.Symbols.{movedOf, unused, block, boxOf, refusalOf, padBlock, boundsAt, padsFor, boundsFor, padsOf, aabbOf, Sound, Placeable}
-use Rattle.symbol.specs.Steps.{offsetOf, at, storedPads, storedBox, mapFirst, Near}
 use Rattle.orientation.specs.declared.RotMirror.{RotMirror}
-use Rattle.symbol.specs.declared.Point.{Point}
+use Rattle.orientation.proofs.Turns.{is-known}
+use Rattle.edge.specs.Coordinates.{insideOf}
+use Rattle.symbol.specs.Symbols.{unused, block, boxOf, refusalOf, padBlock, boundsAt, padsFor, boundsFor, padsOf, aabbOf, Placeable}
 use Rattle.symbol.specs.declared.PadBlock.{PadBlock}
 use Rattle.symbol.specs.declared.PadsReply.{PadsReply}
 use Rattle.symbol.specs.declared.Bounds.{Bounds}
 use Rattle.symbol.specs.declared.BoundsReply.{BoundsReply}
-use borrow.Author.Tests.{le-leb}
-use Rattle.lists.proofs.Tests.{both-l, both-r}
-use Rattle.orientation.proofs.Turns.{is-known}
 
--- ---- a table of three kinds, at a kind that is neither of the first two
-pub third : {A : Type 0} (f : ℕ → A) → ((n : ℕ) → f 2 ≡ f (suc (suc n))) → (k : ℕ) → (k ≡ 0 → ⊥) → (k ≡ 1 → ⊥) → f 2 ≡ f k
-third f h zero a b = absurd (a refl)
-third f h (suc zero) a b = absurd (b refl)
-third f h (suc (suc n)) a b = h n
-
--- ---- the first n of a list, mapped
-module _ (f : Point → Point) (d : Point) where
-  next : (i : ℕ) (l : List Point) → set (mapFirst f i l) i (f (getD l i d)) ≡ mapFirst f (suc i) l
-  next zero [] = refl
-  next zero (p ∷ l) = refl
-  next (suc i) [] = refl
-  next (suc i) (p ∷ l) = ap {B = List Point} (λ r. f p ∷ r) (next i l)
-
-  pub again : (i : ℕ) (l : List Point) {out : List Point} {r : Point} → out ≡ mapFirst f i l → r ≡ f (getD l i d) → set out i r ≡ mapFirst f (i + 1) l
-  again i l e q = (λ j. set (e j) i (q j)) ∙ next i l ∙ (λ j. mapFirst f (sym (add-one i) j) l)
-
--- ---- the refusals
 above-zero : {A : Type 0} (f g : ℕ → A) → ((k : ℕ) → f (suc k) ≡ g (suc k)) → (n : ℕ) → (n ≡ 0 → ⊥) → f n ≡ g n
 above-zero f g h zero n = absurd (n refl)
 above-zero f g h (suc k) n = h k
@@ -97,58 +75,3 @@ module _ (kind : ℕ) (o : RotMirror) (x y : ℕ) where
   pub box-given : (b : Bounds) → refusalOf kind o x y ≡ 0 → b ≡ boundsAt kind o x y → _≡_ {A = BoundsReply} (record { reply = 0; bounds = b }) (aabbOf kind o x y)
   unfolding aabbOf
   box-given b z e = (λ i. record { reply = 0; bounds = e i }) ∙ sym (ap (λ (k : ℕ). boundsFor k (boundsAt kind o x y)) z)
-
-  -- ---- the stored tables, mapped, are the document's
-  pads-table : (kind : ℕ) → _≡_ {A = PadBlock} (record { points = mapFirst (λ q. movedOf o x y (offsetOf q)) (storedPads kind .count) (storedPads kind .points); count = storedPads kind .count }) (padBlock kind o x y)
-  pads-table zero = refl
-  pads-table (suc zero) = refl
-  pads-table (suc (suc k)) = refl
-
-  pub pads-made : (b : PadBlock) (l : List Point) → b ≡ storedPads kind → l ≡ mapFirst (λ q. movedOf o x y (offsetOf q)) (b .count) (b .points) → _≡_ {A = PadBlock} (record { points = l; count = b .count }) (padBlock kind o x y)
-  pads-made b l e q = (λ i. record { points = q i; count = b .count }) ∙ (λ i. record { points = mapFirst (λ q. movedOf o x y (offsetOf q)) (e i .count) (e i .points); count = e i .count }) ∙ pads-table kind
-
-  box-table : (kind : ℕ) → boxOf (movedOf o x y (offsetOf (storedBox kind .low))) (movedOf o x y (offsetOf (storedBox kind .high))) ≡ boundsAt kind o x y
-  box-table zero = refl
-  box-table (suc zero) = refl
-  box-table (suc (suc k)) = refl
-
-  pub box-made : (b r : Bounds) (p q : Point) → b ≡ storedBox kind → p ≡ movedOf o x y (offsetOf (b .low)) → q ≡ movedOf o x y (offsetOf (b .high)) → r ≡ boxOf p q → r ≡ boundsAt kind o x y
-  box-made b r p q e f g h = h ∙ (λ i. boxOf (f i) (g i)) ∙ (λ i. boxOf (movedOf o x y (offsetOf (e i .low))) (movedOf o x y (offsetOf (e i .high)))) ∙ box-table kind
-
--- ---- the stored numbers are at most 400
-near : (a b : ℕ) → T (leb a 400) → T (leb b 400) → Near (record { x = a; y = b })
-near a b s t = record { in-x = leb→le a 400 s; in-y = leb→le b 400 t }
-
--- of a list of three
-near-three : (p q r : Point) → Near p → Near q → Near r → (k : ℕ) → Near (getD (p ∷ q ∷ r ∷ []) k unused)
-near-three p q r u v w zero = u
-near-three p q r u v w (suc zero) = v
-near-three p q r u v w (suc (suc zero)) = w
-near-three p q r u v w (suc (suc (suc k))) = near 0 0 tt tt
-
-pub pads-near : (kind : ℕ) (b : PadBlock) → b ≡ storedPads kind → (k : ℕ) → Near (getD (b .points) k unused)
-pads-near kind b e k = subst (λ (b : PadBlock). Near (getD (b .points) k unused)) (sym e) (go kind)
-  where
-    none : Near unused
-    none = near 0 0 tt tt
-
-    go : (kind : ℕ) → Near (getD (storedPads kind .points) k unused)
-    go zero = near-three (at 200 200) unused unused (near 200 200 tt tt) none none k
-    go (suc zero) = near-three (at 200 100) (at 150 300) (at 250 300) (near 200 100 tt tt) (near 150 300 tt tt) (near 250 300 tt tt) k
-    go (suc (suc n)) = near-three (at 200 100) unused unused (near 200 100 tt tt) none none k
-
-pub box-near : (kind : ℕ) (b : Bounds) → b ≡ storedBox kind → Near (b .low) × Near (b .high)
-box-near kind b e = subst (λ (b : Bounds). Near (b .low) × Near (b .high)) (sym e) (go kind)
-  where
-    go : (kind : ℕ) → Near (storedBox kind .low) × Near (storedBox kind .high)
-    go zero = (near 150 100 tt tt, near 250 200 tt tt)
-    go (suc zero) = (near 150 100 tt tt, near 250 300 tt tt)
-    go (suc (suc k)) = (near 150 100 tt tt, near 250 350 tt tt)
-
-pub few : (kind : ℕ) (b : PadBlock) → b ≡ storedPads kind → b .count ≤ 3
-few kind b e = subst (λ (b : PadBlock). b .count ≤ 3) (sym e) (go kind)
-  where
-    go : (kind : ℕ) → storedPads kind .count ≤ 3
-    go zero = omega arith
-    go (suc zero) = omega arith
-    go (suc (suc k)) = omega arith

@@ -1,4 +1,4 @@
--- What the functions below the calls return: the tables as the code holds them, each number 200 more so that none is negative, and their map.
+-- What the functions below the calls ask and return. The code's tables hold each number of a symbol as 200 more, so that none is negative.
 use Prim.Native.Nat.{ℕ, zero, suc, _≤_}
 use mathlib.Core.List.{List, [], _∷_}
 use lib.IntN.{ℤ, pos, negsuc, subℕ}
@@ -6,24 +6,10 @@ use lib.ListN.{getD}
 use Rattle.orientation.specs.declared.RotMirror.{RotMirror}
 use Rattle.symbol.specs.Symbols.{Offset, off, unused, Sound}
 use Rattle.symbol.specs.declared.Point.{Point}
-use Rattle.symbol.specs.declared.PadBlock.{PadBlock}
-use Rattle.symbol.specs.declared.Bounds.{Bounds}
 
+-- a point of the tables, as an offset
 abbrev pub offsetOf : Point → Offset
 offsetOf q = off (subℕ (q .x) 200) (subℕ (q .y) 200)
-
-abbrev pub at : ℕ → ℕ → Point
-at x y = record { x = x; y = y }
-
-abbrev pub storedPads : ℕ → PadBlock
-storedPads zero = record { points = at 200 200 ∷ unused ∷ unused ∷ []; count = 1 }
-storedPads (suc zero) = record { points = at 200 100 ∷ at 150 300 ∷ at 250 300 ∷ []; count = 3 }
-storedPads (suc (suc n)) = record { points = at 200 100 ∷ unused ∷ unused ∷ []; count = 1 }
-
-abbrev pub storedBox : ℕ → Bounds
-storedBox zero = record { low = at 150 100; high = at 250 200 }
-storedBox (suc zero) = record { low = at 150 100; high = at 250 300 }
-storedBox (suc (suc n)) = record { low = at 150 100; high = at 250 350 }
 
 -- f of the first n
 abbrev pub mapFirst : (Point → Point) → ℕ → List Point → List Point

@@ -4,7 +4,7 @@ ghost use Prim.Native.Nat.{min, max};
 ghost use lib.IntN.{subℕ, _+ℤ_, _*ℤ_};
 ghost use Rattle.edge.specs.Coordinates.{coordOf, biased};
 ghost use Rattle.symbol.specs.Symbols.{Sound, Placeable, canTurn, movedOf, padBlock, boxOf, boundsAt, refusalOf, padsOf, aabbOf, touchesOf};
-ghost use Rattle.symbol.specs.Steps.{offsetOf, storedPads, storedBox, mapFirst, Near, Along, Mapping};
+ghost use Rattle.symbol.specs.Steps.{offsetOf, mapFirst, Near, Along, Mapping};
 use orientation::RotMirror;
 
 // A point as rows hold it: each coordinate and 6,000 more. A row of zeros is no point.
@@ -36,6 +36,44 @@ pub struct BoundsReply {
     pub reply: u8,
     pub bounds: Bounds,
 }
+
+const UNUSED: Point = Point { x: 0, y: 0 };
+
+// The pads of the kinds, each number 200 more so that none is negative.
+const PADS: [PadBlock; 3] = [
+    PadBlock {
+        points: [Point { x: 200, y: 200 }, UNUSED, UNUSED],
+        count: 1,
+    },
+    PadBlock {
+        points: [
+            Point { x: 200, y: 100 },
+            Point { x: 150, y: 300 },
+            Point { x: 250, y: 300 },
+        ],
+        count: 3,
+    },
+    PadBlock {
+        points: [Point { x: 200, y: 100 }, UNUSED, UNUSED],
+        count: 1,
+    },
+];
+
+// The boxes of the kinds, each number 200 more.
+const BOXES: [Bounds; 3] = [
+    Bounds {
+        low: Point { x: 150, y: 100 },
+        high: Point { x: 250, y: 200 },
+    },
+    Bounds {
+        low: Point { x: 150, y: 100 },
+        high: Point { x: 250, y: 300 },
+    },
+    Bounds {
+        low: Point { x: 150, y: 100 },
+        high: Point { x: 250, y: 350 },
+    },
+];
 
 // Whether a component of this kind turns or mirrors in place: only contacts do.
 pub fn can_turn(kind: u8) -> bool
@@ -89,56 +127,6 @@ fn refusal(kind: u8, o: RotMirror, x: u16, y: u16) -> u8
     }
 }
 
-// The pads of a kind, each number 200 more.
-fn symbol_pads(kind: u8) -> PadBlock
-    ensures { λ r. ⌜ r ≡ storedPads kind ⌝ }
-{
-    let unused = Point { x: 0, y: 0 };
-    if kind == 0 {
-        let v = Point { x: 200, y: 200 };
-        return PadBlock {
-            points: [v, unused, unused],
-            count: 1,
-        };
-    }
-    let c = Point { x: 200, y: 100 };
-    if kind == 1 {
-        let a = Point { x: 150, y: 300 };
-        let b = Point { x: 250, y: 300 };
-        return PadBlock {
-            points: [c, a, b],
-            count: 3,
-        };
-    }
-    PadBlock {
-        points: [c, unused, unused],
-        count: 1,
-    }
-}
-
-// The box of a kind, each number 200 more.
-fn symbol_box(kind: u8) -> Bounds
-    ensures { λ r. ⌜ r ≡ storedBox kind ⌝ }
-{
-    let low = Point { x: 150, y: 100 };
-    if kind == 0 {
-        return Bounds {
-            low,
-            high: Point { x: 250, y: 200 },
-        };
-    }
-    if kind == 1 {
-        return Bounds {
-            low,
-            high: Point { x: 250, y: 300 },
-        };
-    }
-    Bounds {
-        low,
-        high: Point { x: 250, y: 350 },
-    }
-}
-
 // The first count points, mapped through orientation and position; those behind stay.
 fn mapped(points: [Point; 3], count: usize, o: RotMirror, x: u16, y: u16) -> [Point; 3]
     requires { ⌜ Mapping points count o x y ⌝ }
@@ -159,7 +147,8 @@ pub fn pads_at(kind: u8, o: RotMirror, x: u16, y: u16) -> PadBlock
     requires { ⌜ Placeable kind o x y ⌝ }
     ensures { λ r. ⌜ r ≡ padBlock kind o x y ⌝ }
 {
-    let p = symbol_pads(kind);
+    let k = kind as usize;
+    let p = PADS[k];
     let points = p.points;
     let count = p.count;
     PadBlock {
@@ -174,9 +163,8 @@ pub fn pads(kind: u8, o: RotMirror, x: u16, y: u16) -> PadsReply
 {
     let reply = refusal(kind, o, x, y);
     if reply != 0 {
-        let unused = Point { x: 0, y: 0 };
         let none = PadBlock {
-            points: [unused, unused, unused],
+            points: [UNUSED, UNUSED, UNUSED],
             count: 0,
         };
         return PadsReply { reply, pads: none };
@@ -219,7 +207,8 @@ pub fn bounds_at(kind: u8, o: RotMirror, x: u16, y: u16) -> Bounds
     requires { ⌜ Placeable kind o x y ⌝ }
     ensures { λ r. ⌜ r ≡ boundsAt kind o x y ⌝ }
 {
-    let b = symbol_box(kind);
+    let k = kind as usize;
+    let b = BOXES[k];
     let low = b.low;
     let high = b.high;
     let p = moved(o, low, x, y);
@@ -233,10 +222,9 @@ pub fn aabb(kind: u8, o: RotMirror, x: u16, y: u16) -> BoundsReply
 {
     let reply = refusal(kind, o, x, y);
     if reply != 0 {
-        let unused = Point { x: 0, y: 0 };
         let none = Bounds {
-            low: unused,
-            high: unused,
+            low: UNUSED,
+            high: UNUSED,
         };
         return BoundsReply {
             reply,

@@ -6,7 +6,7 @@ use native.Mathlib.Omega.{arith}
 use Rattle.symbol.specs.Symbols.{movedOf, unused}
 use Rattle.symbol.specs.Steps.{offsetOf, mapFirst}
 use Rattle.symbol.specs.declared.Point.{Point}
-use Rattle.symbol.proofs.Symbols.{again}
+use Rattle.symbol.proofs.Tables.{again}
 use Rattle.symbol.proofs.mapped.Statement.{statement}
 use Rattle.symbol.proofs.mapped.Tie as tie
 
