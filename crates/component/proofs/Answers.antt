@@ -75,7 +75,7 @@ by-reply false p f g h i = i
 
 module _ (kind : ℕ) (o : RotMirror) (x y : ℤ) where
   reply : cond (leb kind 2 && known o) (cond (positioned x && positioned y) 0 1) 4 ≡ refusalOf kind o (heldOf x) (heldOf y)
-  reply = refuse kind o (heldOf x) (heldOf y) (leb kind 2) (known o) (positioned x && positioned y) refl refl (λ i. held-test x i && held-test y i)
+  reply = refuse kind o (heldOf x) (heldOf y) (leb kind 2 && known o) (positioned x && positioned y) refl (λ i. held-test x i && held-test y i)
 
   -- what is right where kind, orientation and position are
   module _ (k : T (leb kind 2 && known o)) (p : T (positioned x && positioned y)) where

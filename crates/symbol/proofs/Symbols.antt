@@ -22,9 +22,10 @@ above-zero f g h zero n = absurd (n refl)
 above-zero f g h (suc k) n = h k
 
 module _ (kind : ℕ) (o : RotMirror) (x y : ℕ) where
-  pub refuse : (p q r : Bool) → leb kind 2 ≡ p → known o ≡ q → (insideOf x && insideOf y) ≡ r → cond (p && q) (cond r 0 1) 4 ≡ refusalOf kind o x y
+  -- the reply, by what the two tests give
+  pub refuse : (k p : Bool) → (leb kind 2 && known o) ≡ k → (insideOf x && insideOf y) ≡ p → cond k (cond p 0 1) 4 ≡ refusalOf kind o x y
   unfolding refusalOf
-  refuse p q r e f g = sym (λ i. cond (e i && f i) (cond (g i) 0 1) 4)
+  refuse k p e f = sym (λ i. cond (e i) (cond (f i) 0 1) 4)
 
   -- the tests, read
   pub tests-placeable : T (leb kind 2 && known o) → T (insideOf x && insideOf y) → Placeable kind o x y
@@ -57,7 +58,7 @@ module _ (kind : ℕ) (o : RotMirror) (x y : ℕ) where
   unrefused h =
       let s = h .sound in
       let row : (n : ℕ) → 200 ≤ n → n ≤ 11800 → insideOf n ≡ true = λ n f g. λ i. le-leb 200 n f i && le-leb n 11800 g i in
-      sym (refuse true true true (le-leb kind 2 (h .of-kind)) (is-known o (s .turned)) (λ i. row x (s .left) (s .right) i && row y (s .top) (s .bottom) i))
+      sym (refuse true true (λ i. le-leb kind 2 (h .of-kind) i && is-known o (s .turned) i) (λ i. row x (s .left) (s .right) i && row y (s .top) (s .bottom) i))
 
   -- ---- the answers: zeros where the call is refused, else what the drawing of a lawful component gives
   pub pads-refused : (r : ℕ) → r ≡ refusalOf kind o x y → (r ≡ 0 → ⊥) → _≡_ {A = PadsReply} (record { reply = r; pads = block [] }) (padsOf kind o x y)

@@ -113,10 +113,7 @@ fn moved(o: RotMirror, q: Point, x: u16, y: u16) -> Point
 fn refusal(kind: u8, o: RotMirror, x: u16, y: u16) -> u8
     ensures { λ r. ⌜ r ≡ refusalOf kind o x y ⌝ }
 {
-    if 2 < kind {
-        return 4;
-    }
-    if orientation::is_known(o) {
+    if (kind <= 2) & orientation::is_known(o) {
         if edge::is_position(x) & edge::is_position(y) {
             0
         } else {
