@@ -15,6 +15,11 @@ pub struct Held {
     pub bytes: [u8; 16],
 }
 
+const REFUSED: Held = Held {
+    reply: 5,
+    bytes: [0u8; 16],
+};
+
 // Whether a label may have the byte.
 fn is_graphic(b: u8) -> bool
     ensures { λ r. ⌜ r ≡ graphic b ⌝ }
@@ -51,10 +56,7 @@ pub fn held_label(l: Label) -> Held
     let given = l.bytes;
     let length = l.length;
     if 16 < length {
-        return Held {
-            reply: 5,
-            bytes: [0u8; 16],
-        };
+        return REFUSED;
     }
     let mut bytes = [0u8; 16];
     let mut i = 0;
@@ -64,10 +66,7 @@ pub fn held_label(l: Label) -> Held
             bytes[i] = b;
             i += 1;
         } else {
-            return Held {
-                reply: 5,
-                bytes: [0u8; 16],
-            };
+            return REFUSED;
         }
     }
     Held { reply: 0, bytes }

@@ -9,7 +9,7 @@ use lib.IntN.{negℤ-negℤ}
 use lib.ListN.{getD}
 use Rattle.lists.specs.Lists.{all}
 use Rattle.lists.proofs.Tests.{agree}
-use Rattle.orientation.specs.Orientations.{turn, sameOf, numberOf, known, eighth, done, refused, turnedBy, rightOf, leftOf, mirrorOf, rights, lefts, mirrors}
+use Rattle.orientation.specs.Orientations.{turn, sameOf, numberOf, numberReply, isAt, known, eighth, done, refused, turnedBy, rightOf, leftOf, mirrorOf, rights, lefts, mirrors}
 use Rattle.orientation.specs.declared.RotMirror.{RotMirror}
 use Rattle.orientation.specs.declared.Number.{Number}
 use Rattle.orientation.specs.declared.Number.the-variants.{At, Unknown}
@@ -36,6 +36,11 @@ below-8 P h n l = each P (in-upTo 8 l) h
 pub number-eighth : (n : ℕ) → n < 8 → numberOf (eighth n) ≡ At n
 unfolding numberOf sameOf
 number-eighth = below-8 (λ (n : ℕ). numberOf (eighth n) ≡ At n) (refl, (refl, (refl, (refl, (refl, (refl, (refl, (refl, tt))))))))
+
+-- the reply tells whether there is a number
+pub number-reply : (n : Number) → numberReply n ≡ cond (isAt n) 0 4
+number-reply (At n) = refl
+number-reply Unknown = refl
 
 -- the number that `At` holds
 abbrev pub told : Number → ℕ

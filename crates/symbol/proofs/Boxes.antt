@@ -70,6 +70,13 @@ touches-reads a b f g = reads-as (into, out) (shares-reads a b)
     out : (p : Point) × In p a × In p b → Shares a b
     out t = let h = t .1 in let k = t .2 in record { x-left = omega arith; x-right = omega arith; y-top = omega arith; y-bottom = omega arith }
 
+-- so two boxes with a common point touch
+pub common-touches : (a b : Bounds) (p : Point) → T (within p a) → T (within p b) → T (touchesOf a b)
+common-touches a b p s t =
+    let h = holds (within-reads p a) s in
+    let k = holds (within-reads p b) t in
+    passes (shares-reads a b) (record { x-left = omega arith; x-right = omega arith; y-top = omega arith; y-bottom = omega arith })
+
 -- ---- a coordinate of a component's point, which lies z from the position's
 abbrev put : ℕ → ℤ → ℕ
 put x z = biased (coordOf x +ℤ z)
@@ -112,13 +119,13 @@ all-astride (suc zero) = test-eight (corners-astride 1) tt
 all-astride (suc (suc k)) = test-eight (corners-astride 2) tt
 
 -- ---- a position lies in its own box
-pub own-box : (k : ℕ) (o : RotMirror) (x y : ℕ) → T (known o) → In (record { x = x; y = y }) (boundsAt k o x y)
+pub own-box : (k : ℕ) (o : RotMirror) (x y : ℕ) → T (known o) → T (within (record { x = x; y = y }) (boundsAt k o x y))
 unfolding corners-astride
 own-box k o x y t =
     let a = holds (and-reads (test (astride (applied o (lowAt k) .dx) (applied o (highAt k) .dx))) (test (astride (applied o (lowAt k) .dy) (applied o (highAt k) .dy)))) (all-astride k o t) in
     let h = spans x (applied o (lowAt k) .dx) (applied o (highAt k) .dx) (a .0) in
     let v = spans y (applied o (lowAt k) .dy) (applied o (highAt k) .dy) (a .1) in
-    record { x-low = h .0; x-high = h .1; y-low = v .0; y-high = v .1 }
+    passes (within-reads (record { x = x; y = y }) (boundsAt k o x y)) (record { x-low = h .0; x-high = h .1; y-low = v .0; y-high = v .1 })
 
 -- ---- a mirror leaves a contact's box
 swapped : (a b c d : ℕ) → boxOf (record { x = b; y = c }) (record { x = a; y = d }) ≡ boxOf (record { x = a; y = c }) (record { x = b; y = d })
