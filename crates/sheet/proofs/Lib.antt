@@ -15,3 +15,4 @@ pub mod RowOrder
 pub mod Rule4
 pub mod Padding
 pub mod Rules
+pub mod Examples

@@ -1,7 +1,7 @@
 -- Rules 2 and 7 together are the order of rows; that each row rises to each later one is that it rises to the next.
 use Prim.Native.Nat.{_<_}
 use mathlib.Core.List.{List}
-use mathlib.Core.Path.{_≡_, sym, _∙_}
+use mathlib.Core.Path.{sym, _∙_}
 use mathlib.Core.Logic.{⊎-elim, _↔_}
 use native.Mathlib.Omega.{arith}
 use Rattle.lists.specs.Lists.{Rows, Chain}

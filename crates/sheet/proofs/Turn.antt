@@ -1,7 +1,7 @@
 -- Turn right and mirror keep a sheet good; mirroring loses nothing.
 use Prim.Native.Nat.{ℕ, _+_, _≤_}
 use mathlib.Core.Bool.{Bool, false, cond, not}
-use mathlib.Core.List.{List, map, Memᴰ·of-map as ∈-map, Memᴰ·map as map-∈, Memᴰ·cast as ∈-cast}
+use mathlib.Core.List.{map, Memᴰ·of-map as ∈-map, Memᴰ·map as map-∈, Memᴰ·cast as ∈-cast}
 use mathlib.Core.Path.{_≡_, refl, sym, subst, subst₂, ap₂, _∙_}
 use mathlib.Core.Logic.{⊎-elim, _⊎_, inl, inr}
 use native.Mathlib.Omega.{arith}
