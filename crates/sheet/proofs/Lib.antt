@@ -16,3 +16,4 @@ pub mod Rule4
 pub mod Padding
 pub mod Rules
 pub mod Examples
+pub mod Owned
