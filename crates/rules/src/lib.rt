@@ -1,4 +1,7 @@
-// The drawing check.
+// The drawing check, each rule by its own words.
+pub mod limits;
+pub mod order;
+
 // The first broken rule, or 0; for rule 5 the two rows whose boxes share a point.
 pub struct Checked {
     pub rule: u8,
