@@ -5,23 +5,21 @@ use mathlib.Core.List.{List, [], _∷_, List·Memᴰ·head as ∈-head, List·Me
 use mathlib.Core.Path.{_≡_, refl, sym, subst, ap, _∙_}
 use mathlib.Core.Logic.{⊎-elim, inl, inr, _↔_}
 use native.Mathlib.Omega.{arith}
-use lib.Dec.{eqb}
-use Rattle.lists.specs.Lists.{_∈_, Rows, none, more, keep, gather}
-use Rattle.lists.proofs.Tests.{stable, choose, decide, reads-as, not-reads, beq-reads, eqb-reads, ltb-reads, same-test}
+use Rattle.lists.specs.Lists.{_∈_, keep, gather, Rows, none, more}
+use Rattle.lists.proofs.Tests.{decide, choose, ltb-reads, beq-reads}
 use Rattle.lists.proofs.Lists.{keep-in, in-keep, gather-in, in-gather, rows-keep, rows-all}
 use Rattle.symbol.specs.declared.Point.{Point}
 use Rattle.sheet.specs.declared.Wire.{Wire}
 use Rattle.sheet.specs.Points.{same}
-use Rattle.sheet.specs.Lines.{Side, low, high, tip, tips, ends, marks, Ends, Follows}
-use Rattle.sheet.specs.Wiring.{Ended, Held, AllFit, Clean}
-use Rattle.sheet.specs.Merge.{held, mergeBy, merge}
-use Rattle.sheet.specs.Joints.{jointsOf, countAt, number}
-use Rattle.sheet.specs.Rules.{Share, endsAt, Rule2, Rule4}
+use Rattle.sheet.specs.Lines.{tip, tips, ends, marks, Ends, Follows, Side, low, high}
+use Rattle.sheet.specs.Joints.{number}
+use Rattle.sheet.specs.Wiring.{Held, AllFit, Ended}
+use Rattle.sheet.specs.Rules.{endsAt, Rule2, Rule4, Share}
 use Rattle.sheet.proofs.Points.{same-reads}
-use Rattle.sheet.proofs.Lines.{same-dir, ends-at, ends-is, is-ends, ends-follow, follows-end}
-use Rattle.sheet.proofs.Merge.{held-reads, merge-cong}
-use Rattle.sheet.proofs.JointRows.{number-in, in-number, number-append, number-parts, count-joints}
-use Rattle.sheet.proofs.RowOrder.{rules-2-7}
+use Rattle.sheet.proofs.Lines.{same-dir, ends-at, ends-is, is-ends}
+use Rattle.sheet.proofs.Wiring.{ends-follow, follows-end}
+use Rattle.sheet.proofs.Held.{held-reads}
+use Rattle.sheet.proofs.Numbers.{number-in, in-number, number-append, number-parts}
 
 -- the ends of one side
 sideEnds : Side → List Wire → List Point
@@ -144,12 +142,3 @@ module _ {ws : List Wire} (ps : List Point) (fits : AllFit ws) (r : Rule2 ws) wh
       out : number (tip high a) (marks ws ps) ≡ 2 → Held ws ps (a .vertical) (tip high a) → ⊥
       out c (inl s) = omega (arith, both, two, some-end (not (a .vertical)) (tip high a) s)
       out c (inr s) = omega (arith, both, two, in-number s)
-
--- merging by the joint rows: wires that go on in line become one just where the count is 2
-pub merge-by-count : {ws : List Wire} {ps : List Point} → Clean ws ps → mergeBy (λ d p. not (eqb (countAt p (jointsOf (marks ws ps))) 2)) ws ≡ merge ws ps
-unfolding merge
-merge-by-count {ws} {ps} c = merge-cong (λ d p. not (eqb (countAt p (jointsOf (marks ws ps))) 2)) (held ws ps) (c .order) (c .fits) (λ a b m n e.
-    let t = count-two ps (c .fits) (rules-2-7 (c .fits) .0 (c .order) .0) a b m n e in
-    let s = count-joints (tip high a) (marks ws ps) in
-    let h = held-reads ws ps (a .vertical) (tip high a) in
-    same-test (reads-as (λ f. stable h (λ g. f (s ∙ t .0 g)), λ x k. t .1 (sym s ∙ k) x) (not-reads (eqb-reads (countAt (tip high a) (jointsOf (marks ws ps))) 2))) h)

@@ -1,71 +1,19 @@
 -- What splitting at points does to a list of wires.
-use Prim.Native.Nat.{ℕ, suc, _+_, _≤_}
-use mathlib.Core.Bool.{Bool, true, false, cond}
-use mathlib.Core.List.{List, [], _∷_, _++_, List·Memᴰ·head as ∈-head, List·Memᴰ·tail as ∈-tail, List·Memᴰ·cases-cons as ∈-cases, List·Memᴰ·eq-of-singleton as ∈-one, List·Memᴰ·append-cases as ∈-append, List·Memᴰ·not-nil as ∈-nil, Memᴰ·append-left as ∈-left, Memᴰ·append-right as ∈-right, Memᴰ·cast as ∈-cast}
+use Prim.Native.Nat.{ℕ, _≤_}
+use mathlib.Core.List.{List, [], _∷_, _++_, List·Memᴰ·head as ∈-head, List·Memᴰ·tail as ∈-tail, List·Memᴰ·cases-cons as ∈-cases, List·Memᴰ·eq-of-singleton as ∈-one, List·Memᴰ·append-cases as ∈-append, List·Memᴰ·not-nil as ∈-nil, Memᴰ·cast as ∈-cast}
 use mathlib.Core.Path.{_≡_, refl, sym, subst, _∙_}
 use mathlib.Core.Logic.{⊎-elim, _⊎_, inl, inr}
 use native.Mathlib.Omega.{arith}
-use lib.ListN.{length, length-append}
-use Rattle.sheet.specs.declared.Wire.{Wire}
+use Rattle.lists.specs.Lists.{_∈_, gather, Rows, none, more}
+use Rattle.lists.proofs.Tests.{decide, choose, leb-reads}
+use Rattle.lists.proofs.Lists.{in-cons, in-one, gather-in, in-gather, rows-one}
 use Rattle.symbol.specs.declared.Point.{Point}
-use Rattle.lists.specs.Lists.{_∈_, Rows, none, more, keep, gather}
-use Rattle.sheet.specs.Lines.{along, across, Side, low, high, at, tip, Ends, EndAt, Inside, inside, On, Before, turned, next-line, same-line, Follows, marks}
-use Rattle.sheet.specs.Wiring.{Ended, Held, Fits, Wired}
+use Rattle.sheet.specs.declared.Wire.{Wire}
+use Rattle.sheet.specs.Lines.{along, at, EndAt, Inside, On, Side, low, high, Before, same-line}
 use Rattle.sheet.specs.Split.{left, right, splitOne, splitAt, splitAll}
-use Rattle.lists.proofs.Tests.{choose, decide, leb-reads, clash}
-use Rattle.lists.proofs.Lists.{in-cons, in-one, keep-in, gather-in, in-gather, gather-append, rows-keep, rows-one}
-use Rattle.sheet.proofs.Lines.{inside-reads, same-dir, point-is, HasEnd, end-on, on-cases, before-like, marks-in, in-marks, held-at, ends-at, follows-end, ended-as}
-
--- ---- a piece of a wire
-
--- v lies within w: same direction and line, and no longer
-pub record Within (w v : Wire) : Type 0 where
-  pub dir : v .vertical ≡ w .vertical
-  pub line : v .line ≡ w .line
-  pub from : w .start ≤ v .start
-  pub to : v .end ≤ w .end
-
--- a point of the list, strictly inside w, stands at the place m
-abbrev pub Cut : List Point → Wire → ℕ → Type 0
-Cut qs w m = (q : Point) × q ∈ qs × Inside q w × (along (w .vertical) q ≡ m)
-
--- v is what cuts of w at points of the list leave
-pub record Piece (qs : List Point) (w v : Wire) : Type 0 where
-  pub within : Within w v
-  pub tip : (s : Side) → (at s v ≡ at s w) ⊎ Cut qs w (at s v)
-  pub fits : Fits w → Fits v
-
-pub whole : {w : Wire} → Within w w
-whole = record { dir = refl; line = refl; from = omega arith; to = omega arith }
-
-entire : {qs : List Point} {w : Wire} → Piece qs w w
-entire = record { within = whole; tip = λ s. inl refl; fits = λ f. f }
-
-pub within-trans : {w v u : Wire} → Within w v → Within v u → Within w u
-within-trans a b = record { dir = b .dir ∙ a .dir; line = b .line ∙ a .line; from = omega arith; to = omega arith }
-
-pub within-before : {a b a′ b′ : Wire} → Within a a′ → Within b b′ → Before a b → Before a′ b′
-within-before p q x = before-like (p .dir) (p .line) (p .to) (q .dir) (q .line) (q .from) x
-
-pub within-inside : {p : Point} {w v : Wire} → Within w v → Inside p v → Inside p w
-within-inside {p} k i = let s = same-dir (k .dir) p in record { line = omega arith; from = omega arith; to = omega arith }
-
-pub within-on : {p : Point} {w v : Wire} → Within w v → On p v → On p w
-within-on {p} k i = let s = same-dir (k .dir) p in record { line = omega arith; from = omega arith; to = omega arith }
-
-within-end : {s : Side} {q : Point} {w v : Wire} → Within w v → On q v → Ends s q w → Ends s q v
-within-end {s = low} {q} k o e = let t = same-dir (k .dir) q in record { line = o .line; place = omega (arith, e .place) }
-within-end {s = high} {q} k o e = let t = same-dir (k .dir) q in record { line = o .line; place = omega (arith, e .place) }
-
--- where a piece has an end the wire has it, or a point of the list stands there
-pub piece-end : {qs : List Point} {w v : Wire} {s : Side} {q : Point} → Piece qs w v → Ends s q v → Ends s q w ⊎ (q ∈ qs × Inside q w)
-piece-end {qs} {w} {v} {s} {q} p e =
-    let t = same-dir (p .within .dir) q in
-    let l : w .line ≡ across (w .vertical) q = omega (arith, e .line, p .within .line) in
-    ⊎-elim
-    (λ (f : at s v ≡ at s w). inl (record { line = l; place = omega (arith, e .place) }))
-    (λ (c : Cut qs w (at s v)). let same : q ≡ c .0 = point-is (w .vertical) q (c .0) (sym l ∙ c .2 .line) (omega (arith, e .place, c .3)) in inr (∈-cast same (c .1), subst (λ x. Inside x w) (sym same) (c .2)))
-    (p .tip s)
+use Rattle.sheet.specs.Wiring.{Ended, Fits}
+use Rattle.sheet.proofs.Lines.{inside-reads, same-dir, end-on, on-cases}
+use Rattle.sheet.proofs.Pieces.{Cut, entire, within-trans, within-before, within-inside, within-end, Within, Piece}
 
 -- ---- one point and one wire
 
@@ -232,94 +180,3 @@ all-one (p ∷ qs) {ws} m =
 
 pub one-all : (qs : List Point) {ws : List Wire} {w v : Wire} → w ∈ ws → v ∈ splitAll qs (w ∷ []) → v ∈ splitAll qs ws
 one-all qs m n = all-grows qs (λ u i. ∈-cast (∈-one i) m) n
-
--- ---- pads that split the wires under them keep a lawful list
-
-module _ (new : List Point) {ws : List Wire} {ps : List Point} (law : Wired ws ps) where
-  -- a wire end or pad of the result is a new pad, or was one
-  old-mark : {q : Point} → q ∈ marks (splitAll new ws) (new ++ ps) → (q ∈ new) ⊎ (q ∈ marks ws ps)
-  old-mark {q} m = ⊎-elim
-      (λ (h : HasEnd q (splitAll new ws)). let t = all-from new (h .1) in ⊎-elim (λ (e : Ends (h .2 .0) q (t .0)). inr (in-marks (inl (t .0, t .1, (h .2 .0, e))))) (λ (x : q ∈ new × Inside q (t .0)). inl (x .0)) (piece-end (t .2) (h .2 .1)))
-      (λ (k : q ∈ new ++ ps). ⊎-elim inl (λ (x : q ∈ ps). inr (in-marks (inr x))) (∈-append new k))
-      (marks-in (splitAll new ws) m)
-
-  clear : (q : Point) → q ∈ marks (splitAll new ws) (new ++ ps) → (v : Wire) → v ∈ splitAll new ws → Inside q v → ⊥
-  clear q j v m i = ⊎-elim
-      (λ (x : q ∈ new). all-clean new ws m x i)
-      (λ (x : q ∈ marks ws ps). let t = all-from new m in law .clean .clear q x (t .0) (t .1) (within-inside (t .2 .within) i))
-      (old-mark j)
-
-  anchored : (a b : Wire) → a ∈ splitAll new ws → b ∈ splitAll new ws → Follows a b → Held (splitAll new ws) (new ++ ps) (a .vertical) (tip high a)
-  anchored a b ma mb f = go (piece-end (ta .2) (ends-at high a)) (piece-end (tb .2) (follows-end f))
-    where
-      ta : (w : Wire) × w ∈ ws × Piece new w a
-      ta = all-from new ma
-
-      tb : (w : Wire) × w ∈ ws × Piece new w b
-      tb = all-from new mb
-
-      move : Held ws ps (a .vertical) (tip high a) → Held (splitAll new ws) (new ++ ps) (a .vertical) (tip high a)
-      move (inr m) = inr (∈-right new m)
-      move (inl r) = let s = end-stays new (law .clean .fits (r .wire) (r .among)) (r .among) (r .here) in inl (ended-as s (r .dir))
-
-      go : Ends high (tip high a) (ta .0) ⊎ (tip high a ∈ new × Inside (tip high a) (ta .0)) → Ends low (tip high a) (tb .0) ⊎ (tip high a ∈ new × Inside (tip high a) (tb .0)) → Held (splitAll new ws) (new ++ ps) (a .vertical) (tip high a)
-      go (inr x) y = inr (∈-left ps (x .0))
-      go (inl x) (inr y) = inr (∈-left ps (y .0))
-      go (inl x) (inl y) = move (subst (λ d. Held ws ps d (tip high a)) (sym (ta .2 .within .dir)) (held-at law high (ta .1) (tb .1) (sym (ta .2 .within .dir) ∙ f .dir ∙ tb .2 .within .dir) x y))
-
-  pub split-wired : Wired (splitAll new ws) (new ++ ps)
-  split-wired = record { clean = record { fits = λ v m. let t = all-from new m in t .2 .fits (law .clean .fits (t .0) (t .1)); order = all-order new (law .clean .order); clear = clear }; anchored = anchored }
-
--- ---- lengths: a split makes as many more wires as have the point inside, at most two
-
-pub length-split : (p : Point) (ws : List Wire) → length (splitAt p ws) ≡ length ws + length (keep (inside p) ws)
-unfolding splitAt splitOne gather keep
-length-split p [] = refl
-length-split p (w ∷ ws) = step (inside p w) (length-split p ws)
-  where
-    step : (b : Bool) → length (gather (splitOne p) ws) ≡ length ws + length (keep (inside p) ws)
-        → length (cond b (left p w ∷ right p w ∷ []) (w ∷ []) ++ gather (splitOne p) ws) ≡ suc (length ws) + length (cond b (w ∷ keep (inside p) ws) (keep (inside p) ws))
-    step true e = omega arith
-    step false e = omega arith
-
-pub split-no-shorter : (p : Point) (ws : List Wire) → length ws ≤ length (splitAt p ws)
-split-no-shorter p ws = omega (arith, length-split p ws)
-
-pub split-all-no-shorter : (qs : List Point) (ws : List Wire) → length ws ≤ length (splitAll qs ws)
-unfolding splitAll
-split-all-no-shorter [] ws = omega arith
-split-all-no-shorter (q ∷ qs) ws = omega (arith, split-no-shorter q ws, split-all-no-shorter qs (splitAt q ws))
-
--- two wires with one point inside are of both directions
-cross : {a b : Wire} (p : Point) → Inside p a → Inside p b → Before a b → (a .vertical ≡ false) × (b .vertical ≡ true)
-cross p i j (turned e f) = (e, f)
-cross p i j (next-line e f) = absurd (omega (arith, i .line, j .line, same-dir e p))
-cross p i j (same-line e f g) = absurd (omega (arith, i .to, j .from, same-dir e p))
-
-at-most-two : (p : Point) {ws : List Wire} → Rows Before ws → ((w : Wire) → w ∈ ws → Inside p w) → length ws ≤ 2
-at-most-two p none h = omega arith
-at-most-two p (more b none) h = omega arith
-at-most-two p (more b (more b′ none)) h = omega arith
-at-most-two p (more {x = u} b (more {x = v} b′ (more {x = w} b″ r))) h =
-    let in-v = h v (∈-tail (∈-head refl)) in
-    absurd (clash (cross p (h u (∈-head refl)) in-v (b v (∈-head refl)) .1) (cross p in-v (h w (∈-tail (∈-tail (∈-head refl)))) (b′ w (∈-head refl)) .0))
-
-pub split-room : (p : Point) {ws : List Wire} → Rows Before ws → length (splitAt p ws) ≤ length ws + 2
-split-room p {ws} o = omega (arith, length-split p ws, at-most-two p (rows-keep (inside p) o) (λ w m. keep-in (inside-reads p) ws m .1))
-
--- after some of the points, and after some of the wires, there are no more wires than at the end
-
-pub split-all-append : (qs rs : List Point) (ws : List Wire) → splitAll (qs ++ rs) ws ≡ splitAll rs (splitAll qs ws)
-unfolding splitAll
-split-all-append [] rs ws = refl
-split-all-append (q ∷ qs) rs ws = split-all-append qs rs (splitAt q ws)
-
-pub split-append : (p : Point) (vs ws : List Wire) → splitAt p (vs ++ ws) ≡ splitAt p vs ++ splitAt p ws
-unfolding splitAt
-split-append p vs ws = gather-append (splitOne p) vs ws
-
-pub moment-points : (qs rs : List Point) (ws : List Wire) → length (splitAll qs ws) ≤ length (splitAll (qs ++ rs) ws)
-moment-points qs rs ws = rw split-all-append (split-all-no-shorter rs (splitAll qs ws))
-
-pub moment-wires : (p : Point) (vs ws : List Wire) → length (splitAt p vs ++ ws) ≤ length (splitAt p (vs ++ ws))
-moment-wires p vs ws = rw split-append (omega (arith, length-append (splitAt p vs) ws, length-append (splitAt p vs) (splitAt p ws), split-no-shorter p ws))
