@@ -39,3 +39,4 @@ pub mod MergeCount
 pub mod Padding
 pub mod Rules
 pub mod Examples
+pub mod Owned

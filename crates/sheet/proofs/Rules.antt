@@ -82,10 +82,6 @@ unfolding drawn
 drawn-joints s = take-pad 1408 zeroJoint (joints s)
 
 module _ {s : Sheet} (room : Room s) where
-  pub drawn-sized : Sized (drawn s)
-  unfolding drawn
-  drawn-sized = record { wires = length-pad 512 zeroWire (s .wires) (room .wires); components = length-pad 128 zeroComponent (s .parts) (room .parts); joints = length-pad 1408 zeroJoint (joints s) (joint-room room) }
-
   pub drawn-lawful : Good s → Lawful (drawn s)
   drawn-lawful good =
       let w = wired-rules (s .wires) (padsOf (s .parts)) .0 (good .wires) in
