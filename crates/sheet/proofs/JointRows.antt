@@ -1,20 +1,24 @@
 -- The joint rows are told by what is counted: rules 6 and 7 hold of them alone, and the order in which points are listed does not matter.
-use Prim.Native.Nat.{ℕ, suc, _+_, _<_}
+use Prim.Native.Nat.{ℕ, suc, _+_, _*_, _≤_, _<_}
 use mathlib.Core.Bool.{Bool, true, false, cond}
 use mathlib.Core.List.{List, [], _∷_, _++_, List·Memᴰ·head as ∈-head, List·Memᴰ·tail as ∈-tail, List·Memᴰ·not-nil as ∈-nil, List·Permᴰ}
 use mathlib.Core.Path.{_≡_, refl, sym, subst, ap, _∙_}
 use mathlib.Core.Logic.{⊎-elim, _↔_}
 use native.Mathlib.Omega.{arith}
-use Rattle.lists.specs.Lists.{_∈_, none, more}
+use lib.ListN.{length}
+use Rattle.lists.specs.Lists.{_∈_, gather, none, more}
 use Rattle.lists.proofs.Tests.{decide, choose, ltb-reads}
 use Rattle.lists.proofs.Lists.{rows-all, rows-ext}
 use Rattle.symbol.specs.declared.Point.{Point}
+use Rattle.sheet.specs.declared.Wire.{Wire}
 use Rattle.sheet.specs.declared.Joint.{Joint}
 use Rattle.sheet.specs.Points.{same, Rise}
-use Rattle.sheet.specs.Joints.{place, bump, jointsOf, number, countAt, Rising, Listed}
+use Rattle.sheet.specs.Lines.{ends}
+use Rattle.sheet.specs.Joints.{place, bump, jointsOf, number, total, countAt, Rising, Listed}
 use Rattle.sheet.proofs.Points.{same-reads, rise-asym, rise-self}
-use Rattle.sheet.proofs.Numbers.{number-in, in-number, number-append, swap-cond, number-perm}
-use Rattle.sheet.proofs.Bump.{Counted, plus, bump-rising, bump-counted, count-bump}
+use Rattle.sheet.proofs.Numbers.{swap-cond}
+use Rattle.sheet.proofs.Bump.{Counted, plus, bump-rising, bump-counted, total-bump, length-bump, count-bump}
+pub use Rattle.sheet.proofs.Numbers.{number-in, in-number, number-append, number-parts, number-perm, number-length}
 
 -- ---- rows and counts
 
@@ -109,3 +113,21 @@ joints-next p ps = joints-same (p ∷ ps) (ps ++ (p ∷ [])) (λ q. plus-end (sa
 pub bump-swap : (p q : Point) {js : List Joint} → Rising js → Counted js → bump p (bump q js) ≡ bump q (bump p js)
 bump-swap p q {js} r c = joints-ext (bump-rising p (bump-rising q r)) (bump-rising q (bump-rising p r)) (bump-counted p (bump q js) (bump-counted q js c)) (bump-counted q (bump p js) (bump-counted p js c))
     (λ s. count-bump s p (bump-rising q r) ∙ ap (plus s p) (count-bump s q r) ∙ swap-cond (same s p) (same s q) (countAt s js) ∙ sym (count-bump s q (bump-rising p r) ∙ ap (plus s q) (count-bump s p r)))
+
+-- ---- how many, in all
+
+pub total-joints : (ps : List Point) → total (jointsOf ps) ≡ length ps
+unfolding jointsOf total
+total-joints [] = refl
+total-joints (p ∷ ps) = total-bump p (jointsOf ps) ∙ ap suc (total-joints ps)
+
+-- no more rows than wire ends and pads
+pub length-joints : (ps : List Point) → length (jointsOf ps) ≤ length ps
+unfolding jointsOf
+length-joints [] = omega arith
+length-joints (p ∷ ps) = omega (arith, length-bump p (jointsOf ps), length-joints ps)
+
+pub length-ends : (ws : List Wire) → length (ends ws) ≡ 2 * length ws
+unfolding ends gather
+length-ends [] = refl
+length-ends (w ∷ ws) = let ih = length-ends ws in omega arith

@@ -4,6 +4,7 @@ use mathlib.Core.Path.{_≡_, refl, subst}
 use mathlib.Core.Logic.{⊎-elim, inl}
 use Rattle.lists.specs.Lists.{_∈_, insert, insertAll, Rows, none, more}
 use Rattle.lists.proofs.Lists.{insert-in, insert-new, insert-all-in, insert-all-new, insert-all-old, rows-one}
+use Rattle.symbol.specs.declared.Point.{Point}
 use Rattle.sheet.specs.declared.Wire.{Wire}
 use Rattle.sheet.specs.Lines.{first, Before}
 use Rattle.sheet.specs.Split.{splitAll}
@@ -11,10 +12,30 @@ use Rattle.sheet.specs.Run.{lay, addWire, addPieces}
 use Rattle.sheet.specs.Wiring.{AllFit}
 use Rattle.sheet.proofs.Before.{Apart, wires-ext, insert-order}
 use Rattle.sheet.proofs.Pieces.{whole, apart-within, Piece}
-use Rattle.sheet.proofs.Split.{all-from, all-order, all-one, one-all}
+use Rattle.sheet.proofs.Split.{split-from, split-to, all-from, all-order}
 use Rattle.sheet.proofs.Rest.{runOf, restOf, run-fits, rest-fits, rest-order, rest-apart, Draws}
 use Rattle.sheet.proofs.Laid.{laidOf, cutsOf, laid-order}
 use Rattle.sheet.proofs.LaidAgain.{rest-piece, rest-laid}
+
+-- ---- a list is split wire by wire
+
+all-grows : (qs : List Point) {xs ys : List Wire} {v : Wire} → ((w : Wire) → w ∈ xs → w ∈ ys) → v ∈ splitAll qs xs → v ∈ splitAll qs ys
+unfolding splitAll
+all-grows [] {v = v} f m = f v m
+all-grows (p ∷ qs) {xs} f m = all-grows qs (λ w i. let s = split-from p xs i in split-to p (f (s .0) (s .1)) (s .2)) m
+
+all-one : (qs : List Point) {ws : List Wire} {v : Wire} → v ∈ splitAll qs ws → (w : Wire) × w ∈ ws × v ∈ splitAll qs (w ∷ [])
+unfolding splitAll
+all-one [] {v = v} m = (v, m, ∈-head refl)
+all-one (p ∷ qs) {ws} m =
+    let t = all-one qs m in
+    let s = split-from p ws (t .1) in
+    (s .0, s .1, all-grows qs (λ u i. ∈-cast (∈-one i) (split-to p (∈-head refl) (s .2))) (t .2))
+
+one-all : (qs : List Point) {ws : List Wire} {w v : Wire} → w ∈ ws → v ∈ splitAll qs (w ∷ []) → v ∈ splitAll qs ws
+one-all qs m n = all-grows qs (λ u i. ∈-cast (∈-one i) m) n
+
+-- ---- the run's pieces
 
 module _ (E : Draws) where
   abbrev Pieces : List Wire

@@ -11,7 +11,6 @@ pub mod SplitWired
 pub mod Held
 pub mod Merged
 pub mod Merge
-pub mod MergeForward
 -- The wire edit.
 pub mod Reach
 pub mod Rest
@@ -36,7 +35,7 @@ pub mod Room
 pub mod RowOrder
 pub mod Rule4
 pub mod MergeCount
-pub mod Padding
 pub mod Rules
-pub mod Examples
 pub mod Owned
+-- The drawing board.
+pub mod Examples

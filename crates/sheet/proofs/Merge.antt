@@ -1,21 +1,22 @@
--- Merging takes a clean list to one that keeps the rules, and leaves such a list as it is.
-use mathlib.Core.Bool.{Bool, not}
-use mathlib.Core.List.{List}
-use mathlib.Core.Path.{_≡_, sym, ap, _∙_}
+-- Merging takes a clean list to one that keeps the rules, leaves such a list as it is, and may be done from the front.
+use mathlib.Core.Bool.{Bool, true, false, cond, not}
+use mathlib.Core.List.{List, [], _∷_}
+use mathlib.Core.Path.{_≡_, refl, sym, ap, _∙_}
 use mathlib.Core.Logic.{⊎-elim, _⊎_, inl, inr}
 use native.Mathlib.Omega.{arith}
+use lib.Dec.{T}
 use Rattle.lists.specs.Lists.{_∈_, keep, Rows}
-use Rattle.lists.proofs.Tests.{holds, not-not, same-or-turned}
+use Rattle.lists.proofs.Tests.{test, holds, choose, not-not, same-or-turned}
 use Rattle.lists.proofs.Lists.{keep-old, rows-keep, rows-all, rows-chain}
 use Rattle.symbol.specs.declared.Point.{Point}
 use Rattle.sheet.specs.declared.Wire.{Wire}
 use Rattle.sheet.specs.Lines.{tip, marks, EndAt, Inside, Follows, high, Before}
-use Rattle.sheet.specs.Merge.{held, merge}
+use Rattle.sheet.specs.Merge.{held, joins, join, glue, mergeBy, merge, mergeFrom}
 use Rattle.sheet.specs.Wiring.{Held, AllFit, Ended, Clean, Wired}
 use Rattle.sheet.proofs.Lines.{same-dir, ends-at, HasEnd, marks-in, in-marks}
 use Rattle.sheet.proofs.Before.{ends-apart, follows-next}
 use Rattle.sheet.proofs.Wiring.{ended-as}
-use Rattle.sheet.proofs.Held.{held-reads, joins-reads, not-joined, Unjoined, merge-unjoined, merge-idle}
+use Rattle.sheet.proofs.Held.{held-reads, joins-reads, not-joined, joins-follow, joins-join, glue-joined, glue-apart, Unjoined, merge-unjoined, merge-idle}
 use Rattle.sheet.proofs.Merged.{Keeps, merged, merged-kin, merged-fits, merged-order, merged-inner, merged-stay, Covered, Seam, Merged}
 
 -- taking wires and pads away leaves the rest clean
@@ -85,3 +86,31 @@ merge-again c = merge-same (merge-wired c)
 -- where kept wires become one, something else stood before: a wire end of the other direction, or a pad
 pub fell : (f : Wire → Bool) {ws : List Wire} {ps : List Point} {H : Keeps} → Wired ws ps → {d : Bool} {p : Point} (s : Seam H (keep f ws) d p) → Held ws ps (s .one .vertical) (tip high (s .one))
 fell f {ws} l s = l .anchored (s .one) (s .next) (keep-old f ws (s .among)) (keep-old f ws (s .among′)) (s .meet)
+
+-- ---- merging from the front, as a loop does it, with the wire still open at hand
+
+module _ (h : Bool → Point → Bool) where
+  glue-join : (a b : Wire) (ms : List Wire) → T (joins h a b) → glue h (join a b) ms ≡ glue h a (glue h b ms)
+  unfolding glue
+  glue-join a b [] t = sym (glue-joined h a b [] t)
+  glue-join a b (c ∷ cs) t = ap (λ z. cond z (join (join a b) c ∷ cs) (join a b ∷ c ∷ cs)) (joins-join h c (joins-follow h t)) ∙ rest (joins h b c)
+    where
+      rest : (y : Bool) → cond y (join (join a b) c ∷ cs) (join a b ∷ c ∷ cs) ≡ glue h a (cond y (join b c ∷ cs) (b ∷ c ∷ cs))
+      rest true = sym (glue-joined h a (join b c) cs (unfold joins in t))
+      rest false = sym (glue-joined h a b (c ∷ cs) t)
+
+  glue-next : (a b : Wire) (ms : List Wire) → (T (joins h a b) → ⊥) → a ∷ glue h b ms ≡ glue h a (glue h b ms)
+  unfolding glue
+  glue-next a b [] f = sym (glue-apart h a b [] f)
+  glue-next a b (c ∷ cs) f = rest (joins h b c)
+    where
+      rest : (y : Bool) → a ∷ cond y (join b c ∷ cs) (b ∷ c ∷ cs) ≡ glue h a (cond y (join b c ∷ cs) (b ∷ c ∷ cs))
+      rest true = sym (glue-apart h a (join b c) cs (unfold joins in f))
+      rest false = sym (glue-apart h a b (c ∷ cs) f)
+
+  pub merge-forward : (a : Wire) (bs : List Wire) → mergeFrom h a bs ≡ mergeBy h (a ∷ bs)
+  unfolding mergeFrom mergeBy glue
+  merge-forward a [] = refl
+  merge-forward a (b ∷ bs) = choose (test (joins h a b)) (λ l. l ≡ glue h a (glue h b (mergeBy h bs)))
+      (λ t. merge-forward (join a b) bs ∙ glue-join a b (mergeBy h bs) t)
+      (λ n. ap {B = List Wire} (λ l. a ∷ l) (merge-forward b bs) ∙ glue-next a b (mergeBy h bs) n)

@@ -1,57 +1,31 @@
 -- Room: once rows are left out the wires of an edit never get fewer, so that the end has the most, and what passes the room at
 -- some moment passes it at the end.
-use Prim.Native.Nat.{ℕ, suc, _+_, _≤_, _<_}
+use Prim.Native.Nat.{ℕ, _≤_, _<_}
 use mathlib.Core.Bool.{Bool, true, false, cond, not}
 use mathlib.Core.List.{List, [], _∷_, _++_, append-nil}
 use mathlib.Core.Path.{_≡_, refl, subst}
 use mathlib.Core.Logic.{_↔_}
 use native.Mathlib.Omega.{arith}
 use lib.ListN.{length, length-append}
-use Rattle.lists.specs.Lists.{any, keep, insert, gather}
+use Rattle.lists.specs.Lists.{any, keep, insert}
 use Rattle.lists.proofs.Tests.{choose}
-use Rattle.lists.proofs.Lists.{gather-append, length-keep, length-insert}
+use Rattle.lists.proofs.Lists.{length-keep, length-insert}
 use Rattle.symbol.specs.declared.Point.{Point}
 use Rattle.sheet.specs.declared.Wire.{Wire}
 use Rattle.sheet.specs.declared.Component.{Component}
-use Rattle.sheet.specs.Lines.{tips, inside, meets, first}
-use Rattle.sheet.specs.Split.{left, right, splitOne, splitAt, splitAll}
+use Rattle.sheet.specs.Lines.{tips, meets, first}
+use Rattle.sheet.specs.Split.{splitAt, splitAll}
 use Rattle.sheet.specs.Merge.{merge}
 use Rattle.sheet.specs.Run.{kept, run, rest, standing, lay, addWire}
 use Rattle.sheet.specs.Parts.{pads, padsOf, touches}
 use Rattle.sheet.specs.Drawings.{Sheet}
 use Rattle.sheet.specs.Edits.{place, remove, gone, placeAll, Placed}
+use Rattle.sheet.proofs.Split.{split-no-shorter, split-all-no-shorter, split-all-append, split-append}
 use Rattle.sheet.proofs.Held.{held-reads}
 use Rattle.sheet.proofs.Merged.{merged, merged-no-longer}
 use Rattle.sheet.proofs.Edits.{touched-reads}
 
--- ---- a split makes as many more wires as have the point inside
-
-pub length-split : (p : Point) (ws : List Wire) → length (splitAt p ws) ≡ length ws + length (keep (inside p) ws)
-unfolding splitAt splitOne gather keep
-length-split p [] = refl
-length-split p (w ∷ ws) = step (inside p w) (length-split p ws)
-  where
-    step : (b : Bool) → length (gather (splitOne p) ws) ≡ length ws + length (keep (inside p) ws)
-        → length (cond b (left p w ∷ right p w ∷ []) (w ∷ []) ++ gather (splitOne p) ws) ≡ suc (length ws) + length (cond b (w ∷ keep (inside p) ws) (keep (inside p) ws))
-    step true e = omega arith
-    step false e = omega arith
-
-pub split-no-shorter : (p : Point) (ws : List Wire) → length ws ≤ length (splitAt p ws)
-split-no-shorter p ws = omega (arith, length-split p ws)
-
-pub split-all-no-shorter : (qs : List Point) (ws : List Wire) → length ws ≤ length (splitAll qs ws)
-unfolding splitAll
-split-all-no-shorter [] ws = omega arith
-split-all-no-shorter (q ∷ qs) ws = omega (arith, split-no-shorter q ws, split-all-no-shorter qs (splitAt q ws))
-
-pub split-all-append : (qs rs : List Point) (ws : List Wire) → splitAll (qs ++ rs) ws ≡ splitAll rs (splitAll qs ws)
-unfolding splitAll
-split-all-append [] rs ws = refl
-split-all-append (q ∷ qs) rs ws = split-all-append qs rs (splitAt q ws)
-
-pub split-append : (p : Point) (vs ws : List Wire) → splitAt p (vs ++ ws) ≡ splitAt p vs ++ splitAt p ws
-unfolding splitAt
-split-append p vs ws = gather-append (splitOne p) vs ws
+-- ---- split
 
 -- after some of the points, and after some of the wires, there are no more wires than at the end
 

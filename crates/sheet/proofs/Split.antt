@@ -1,81 +1,28 @@
 -- What splitting at points does to a list of wires.
-use Prim.Native.Nat.{ℕ, _≤_}
-use mathlib.Core.List.{List, [], _∷_, _++_, List·Memᴰ·head as ∈-head, List·Memᴰ·tail as ∈-tail, List·Memᴰ·cases-cons as ∈-cases, List·Memᴰ·eq-of-singleton as ∈-one, List·Memᴰ·append-cases as ∈-append, List·Memᴰ·not-nil as ∈-nil, Memᴰ·cast as ∈-cast}
+use Prim.Native.Nat.{ℕ, suc, _+_, _≤_}
+use mathlib.Core.Bool.{Bool, true, false, cond}
+use mathlib.Core.List.{List, [], _∷_, _++_, List·Memᴰ·head as ∈-head, List·Memᴰ·tail as ∈-tail, List·Memᴰ·cases-cons as ∈-cases, List·Memᴰ·eq-of-singleton as ∈-one, List·Memᴰ·append-cases as ∈-append, List·Memᴰ·not-nil as ∈-nil}
 use mathlib.Core.Path.{_≡_, refl, sym, subst, _∙_}
 use mathlib.Core.Logic.{⊎-elim, _⊎_, inl, inr}
 use native.Mathlib.Omega.{arith}
-use Rattle.lists.specs.Lists.{_∈_, gather, Rows, none, more}
-use Rattle.lists.proofs.Tests.{decide, choose, leb-reads}
-use Rattle.lists.proofs.Lists.{in-cons, in-one, gather-in, in-gather, rows-one}
+use lib.ListN.{length}
+use Rattle.lists.specs.Lists.{_∈_, keep, gather, Rows, none, more}
+use Rattle.lists.proofs.Lists.{gather-in, in-gather, gather-append}
 use Rattle.symbol.specs.declared.Point.{Point}
 use Rattle.sheet.specs.declared.Wire.{Wire}
-use Rattle.sheet.specs.Lines.{along, at, EndAt, Inside, On, Side, low, high, Before, same-line}
+use Rattle.sheet.specs.Lines.{EndAt, inside, Inside, On, Before}
 use Rattle.sheet.specs.Split.{left, right, splitOne, splitAt, splitAll}
 use Rattle.sheet.specs.Wiring.{Ended, Fits}
-use Rattle.sheet.proofs.Lines.{inside-reads, same-dir, end-on, on-cases}
-use Rattle.sheet.proofs.Pieces.{Cut, entire, within-trans, within-before, within-inside, within-end, Within, Piece}
-
--- ---- one point and one wire
-
--- what one split leaves: all of it is cut from w, nothing has p inside, and every point of w is on some of it
-record One (p : Point) (w : Wire) (vs : List Wire) : Type 0 where
-  from : (v : Wire) → v ∈ vs → Piece (p ∷ []) w v
-  clean : (v : Wire) → v ∈ vs → Inside p v → ⊥
-  cover : (q : Point) → On q w → (v : Wire) × v ∈ vs × On q v
-  order : Rows Before vs
-
-one : (p : Point) (w : Wire) → One p w (splitOne p w)
-unfolding splitOne
-one p w = choose (inside-reads p w) (One p w) cut alone
-  where
-    cut : Inside p w → One p w (left p w ∷ right p w ∷ [])
-    cut i = record {
-      from = λ v m. in-cons (Piece (p ∷ []) w) l (λ u n. in-one (Piece (p ∷ []) w) r n) m;
-      clean = λ v m. in-cons (λ u. Inside p u → ⊥) (λ j. omega (arith, j .to)) (λ u n. in-one (λ x. Inside p x → ⊥) (λ j. omega (arith, j .from)) n) m;
-      cover = λ q o. ⊎-elim
-          (λ (x : along (w .vertical) q ≤ along (w .vertical) p). (left p w, ∈-head refl, record { line = o .line; from = o .from; to = x }))
-          (λ (x : along (w .vertical) q ≤ along (w .vertical) p → ⊥). (right p w, ∈-tail (∈-head refl), record { line = o .line; from = omega arith; to = o .to }))
-          (decide (leb-reads (along (w .vertical) q) (along (w .vertical) p)));
-      order = more (λ u n. in-one (Before (left p w)) next n) rows-one;
-    }
-      where
-        next : Before (left p w) (right p w)
-        next = same-line refl refl (omega arith)
-
-        l : Piece (p ∷ []) w (left p w)
-        l = record { within = record { dir = refl; line = refl; from = omega arith; to = omega (arith, i .to) }; tip = tip; fits = λ f. record { line = f .line; long = i .from; end = omega (arith, i .to, f .end) } }
-          where
-            tip : (s : Side) → (at s (left p w) ≡ at s w) ⊎ Cut (p ∷ []) w (at s (left p w))
-            tip low = inl refl
-            tip high = inr (p, ∈-head refl, i, refl)
-
-        r : Piece (p ∷ []) w (right p w)
-        r = record { within = record { dir = refl; line = refl; from = omega (arith, i .from); to = omega arith }; tip = tip; fits = λ f. record { line = f .line; long = i .to; end = f .end } }
-          where
-            tip : (s : Side) → (at s (right p w) ≡ at s w) ⊎ Cut (p ∷ []) w (at s (right p w))
-            tip low = inr (p, ∈-head refl, i, refl)
-            tip high = inl refl
-
-    alone : (Inside p w → ⊥) → One p w (w ∷ [])
-    alone f = record {
-      from = λ v m. in-one (Piece (p ∷ []) w) entire m;
-      clean = λ v m. in-one (λ x. Inside p x → ⊥) f m;
-      cover = λ q o. (w, ∈-head refl, o);
-      order = rows-one;
-    }
-
--- a point that is not inside leaves the wire alone
-one-none : (p : Point) {w : Wire} → (Inside p w → ⊥) → splitOne p w ≡ w ∷ []
-unfolding splitOne
-one-none p {w} f = choose (inside-reads p w) (λ l. l ≡ w ∷ []) (λ i. absurd (f i)) (λ n. refl)
+use Rattle.sheet.proofs.Lines.{same-dir, end-on, on-cases}
+use Rattle.sheet.proofs.Pieces.{Cut, entire, within-trans, within-before, within-inside, within-end, one, one-none, Within, Piece}
 
 -- ---- one point and many wires
 
-split-from : (p : Point) (ws : List Wire) {v : Wire} → v ∈ splitAt p ws → (w : Wire) × w ∈ ws × v ∈ splitOne p w
+pub split-from : (p : Point) (ws : List Wire) {v : Wire} → v ∈ splitAt p ws → (w : Wire) × w ∈ ws × v ∈ splitOne p w
 unfolding splitAt
 split-from p ws m = gather-in (splitOne p) ws m
 
-split-to : (p : Point) {v w : Wire} {ws : List Wire} → w ∈ ws → v ∈ splitOne p w → v ∈ splitAt p ws
+pub split-to : (p : Point) {v w : Wire} {ws : List Wire} → w ∈ ws → v ∈ splitOne p w → v ∈ splitAt p ws
 unfolding splitAt
 split-to p m n = in-gather (splitOne p) m n
 
@@ -163,20 +110,31 @@ pub cut-end : (qs : List Point) {ws : List Wire} {w : Wire} {q : Point} → w �
 cut-end qs {ws} {q = q} m o n = let t = all-cover qs m o in
     record { wire = t .0; among = t .1; dir = t .3 .within .dir; here = ⊎-elim (λ (i : Inside q (t .0)). absurd (all-clean qs ws (t .1) n i)) (λ (e : EndAt q (t .0)). e) (on-cases (t .2)) }
 
--- a list is split wire by wire
+-- ---- a split makes as many more wires as have the point inside
 
-all-grows : (qs : List Point) {xs ys : List Wire} {v : Wire} → ((w : Wire) → w ∈ xs → w ∈ ys) → v ∈ splitAll qs xs → v ∈ splitAll qs ys
+pub length-split : (p : Point) (ws : List Wire) → length (splitAt p ws) ≡ length ws + length (keep (inside p) ws)
+unfolding splitAt splitOne gather keep
+length-split p [] = refl
+length-split p (w ∷ ws) = step (inside p w) (length-split p ws)
+  where
+    step : (b : Bool) → length (gather (splitOne p) ws) ≡ length ws + length (keep (inside p) ws)
+        → length (cond b (left p w ∷ right p w ∷ []) (w ∷ []) ++ gather (splitOne p) ws) ≡ suc (length ws) + length (cond b (w ∷ keep (inside p) ws) (keep (inside p) ws))
+    step true e = omega arith
+    step false e = omega arith
+
+pub split-no-shorter : (p : Point) (ws : List Wire) → length ws ≤ length (splitAt p ws)
+split-no-shorter p ws = omega (arith, length-split p ws)
+
+pub split-all-no-shorter : (qs : List Point) (ws : List Wire) → length ws ≤ length (splitAll qs ws)
 unfolding splitAll
-all-grows [] {v = v} f m = f v m
-all-grows (p ∷ qs) {xs} f m = all-grows qs (λ w i. let s = split-from p xs i in split-to p (f (s .0) (s .1)) (s .2)) m
+split-all-no-shorter [] ws = omega arith
+split-all-no-shorter (q ∷ qs) ws = omega (arith, split-no-shorter q ws, split-all-no-shorter qs (splitAt q ws))
 
-pub all-one : (qs : List Point) {ws : List Wire} {v : Wire} → v ∈ splitAll qs ws → (w : Wire) × w ∈ ws × v ∈ splitAll qs (w ∷ [])
+pub split-all-append : (qs rs : List Point) (ws : List Wire) → splitAll (qs ++ rs) ws ≡ splitAll rs (splitAll qs ws)
 unfolding splitAll
-all-one [] {v = v} m = (v, m, ∈-head refl)
-all-one (p ∷ qs) {ws} m =
-    let t = all-one qs m in
-    let s = split-from p ws (t .1) in
-    (s .0, s .1, all-grows qs (λ u i. ∈-cast (∈-one i) (split-to p (∈-head refl) (s .2))) (t .2))
+split-all-append [] rs ws = refl
+split-all-append (q ∷ qs) rs ws = split-all-append qs rs (splitAt q ws)
 
-pub one-all : (qs : List Point) {ws : List Wire} {w v : Wire} → w ∈ ws → v ∈ splitAll qs (w ∷ []) → v ∈ splitAll qs ws
-one-all qs m n = all-grows qs (λ u i. ∈-cast (∈-one i) m) n
+pub split-append : (p : Point) (vs ws : List Wire) → splitAt p (vs ++ ws) ≡ splitAt p vs ++ splitAt p ws
+unfolding splitAt
+split-append p vs ws = gather-append (splitOne p) vs ws
