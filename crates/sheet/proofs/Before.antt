@@ -85,10 +85,6 @@ ends-apart o fits {v} {w} m n d {p} e i = ⊎-elim
     (λ (x : Apart v w). no-share (⊎-elim inr inl x) (sym d) i (end-on (fits v m) (e .1)))
     (rows-two o m n)
 
--- a point lies strictly inside at most one wire of a direction
-pub inside-once : {ws : List Wire} → Rows Before ws → {a b : Wire} → a ∈ ws → b ∈ ws → a .vertical ≡ b .vertical → {p : Point} → Inside p a → Inside p b → a ≡ b
-inside-once o {a} {b} m n d i j = ⊎-elim (λ (e : a ≡ b). e) (λ (x : Apart a b). absurd (no-share x d i (record { line = j .line; from = omega (arith, j .from); to = omega (arith, j .to) }))) (rows-two o m n)
-
 -- rows of wires are told by what is among them
 pub wires-ext : {vs ws : List Wire} → Rows Before vs → Rows Before ws → AllFit vs → ((w : Wire) → w ∈ vs → w ∈ ws) → ((w : Wire) → w ∈ ws → w ∈ vs) → vs ≡ ws
 wires-ext r s k f g = rows-ext {R = λ a b. Fits a × Fits b × Before a b} (λ a b p q. before-asym (p .0) (p .1) (p .2) (q .2))

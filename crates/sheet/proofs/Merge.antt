@@ -17,7 +17,7 @@ use Rattle.sheet.proofs.Lines.{same-dir, ends-at, HasEnd, marks-in, in-
 use Rattle.sheet.proofs.Before.{ends-apart, follows-next}
 use Rattle.sheet.proofs.Wiring.{ended-as}
 use Rattle.sheet.proofs.Held.{held-reads, joins-reads, not-joined, joins-follow, joins-join, glue-joined, glue-apart, Unjoined, merge-unjoined, merge-idle}
-use Rattle.sheet.proofs.Merged.{Keeps, merged, merged-kin, merged-fits, merged-order, merged-inner, merged-stay, Covered, Seam, Merged}
+use Rattle.sheet.proofs.Merged.{merged, merged-kin, merged-fits, merged-order, merged-inner, merged-stay, Covered, Seam, Merged}
 
 -- taking wires and pads away leaves the rest clean
 pub clean-keep : (f : Wire → Bool) {ws : List Wire} {ps qs : List Point} → ((p : Point) → p ∈ qs → p ∈ ps) → Clean ws ps → Clean (keep f ws) qs
@@ -82,10 +82,6 @@ merge-same {ws} {ps} l = merge-idle (held ws ps) (rows-chain (rows-all (l .clean
 -- merging once is enough
 pub merge-again : {ws : List Wire} {ps : List Point} → Clean ws ps → merge (merge ws ps) ps ≡ merge ws ps
 merge-again c = merge-same (merge-wired c)
-
--- where kept wires become one, something else stood before: a wire end of the other direction, or a pad
-pub fell : (f : Wire → Bool) {ws : List Wire} {ps : List Point} {H : Keeps} → Wired ws ps → {d : Bool} {p : Point} (s : Seam H (keep f ws) d p) → Held ws ps (s .one .vertical) (tip high (s .one))
-fell f {ws} l s = l .anchored (s .one) (s .next) (keep-old f ws (s .among)) (keep-old f ws (s .among′)) (s .meet)
 
 -- ---- merging from the front, as a loop does it, with the wire still open at hand
 

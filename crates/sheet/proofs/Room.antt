@@ -6,7 +6,7 @@ use mathlib.Core.List.{List, [], _∷_, _++_, append-nil}
 use mathlib.Core.Path.{_≡_, refl, subst}
 use mathlib.Core.Logic.{_↔_}
 use native.Mathlib.Omega.{arith}
-use lib.ListN.{length, length-append}
+use lib.ListN.{length}
 use Rattle.lists.specs.Lists.{any, keep, insert}
 use Rattle.lists.proofs.Tests.{choose}
 use Rattle.lists.proofs.Lists.{length-keep, length-insert}
@@ -14,26 +14,22 @@ use Rattle.symbol.specs.declared.Point.{Point}
 use Rattle.sheet.specs.declared.Wire.{Wire}
 use Rattle.sheet.specs.declared.Component.{Component}
 use Rattle.sheet.specs.Lines.{tips, meets, first}
-use Rattle.sheet.specs.Split.{splitAt, splitAll}
+use Rattle.sheet.specs.Split.{splitAll}
 use Rattle.sheet.specs.Merge.{merge}
 use Rattle.sheet.specs.Run.{kept, run, rest, standing, lay, addWire}
 use Rattle.sheet.specs.Parts.{pads, padsOf, touches}
 use Rattle.sheet.specs.Drawings.{Sheet}
 use Rattle.sheet.specs.Edits.{place, remove, gone, placeAll, Placed}
-use Rattle.sheet.proofs.Split.{split-no-shorter, split-all-no-shorter, split-all-append, split-append}
+use Rattle.sheet.proofs.Split.{split-all-no-shorter, split-all-append}
 use Rattle.sheet.proofs.Held.{held-reads}
 use Rattle.sheet.proofs.Merged.{merged, merged-no-longer}
 use Rattle.sheet.proofs.Edits.{touched-reads}
 
 -- ---- split
 
--- after some of the points, and after some of the wires, there are no more wires than at the end
-
+-- after some of the points there are no more wires than at the end
 pub moment-points : (qs rs : List Point) (ws : List Wire) → length (splitAll qs ws) ≤ length (splitAll (qs ++ rs) ws)
 moment-points qs rs ws = rw split-all-append (split-all-no-shorter rs (splitAll qs ws))
-
-pub moment-wires : (p : Point) (vs ws : List Wire) → length (splitAt p vs ++ ws) ≤ length (splitAt p (vs ++ ws))
-moment-wires p vs ws = rw split-append (omega (arith, length-append (splitAt p vs) ws, length-append (splitAt p vs) (splitAt p ws), split-no-shorter p ws))
 
 -- ---- wire
 
@@ -91,5 +87,5 @@ pub moment : (bs cs : List Component) (s : Sheet) → length (placeAll bs s .she
 moment bs cs s = rw place-all-append (place-all-no-shorter cs (placeAll bs s .sheet))
 
 -- over N wires at some moment is over N at the end
-pub over : (N : ℕ) (cs : List Component) (s : Sheet) → ((bs : List Component) × (rest : List Component) × (bs ++ rest ≡ cs) × (N < length (placeAll bs s .sheet .wires))) ↔ (N < length (placeAll cs s .sheet .wires))
+pub over : (N : ℕ) (cs : List Component) (s : Sheet) → ((bs : List Component) × (bs′ : List Component) × (bs ++ bs′ ≡ cs) × (N < length (placeAll bs s .sheet .wires))) ↔ (N < length (placeAll cs s .sheet .wires))
 over N cs s = (λ r. subst (λ l. N < length (placeAll l s .sheet .wires)) (r .2) (omega (arith, moment (r .0) (r .1) s, r .3)), λ l. (cs, [], append-nil cs, l))
