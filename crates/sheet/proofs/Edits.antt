@@ -84,10 +84,7 @@ place-good c s fit good free = record {
 -- ---- delete
 
 module _ (f : Wire → Bool) (g : Component → Bool) (s : Sheet) where
-  -- the wires and components that are left
-  abbrev left-wires : List Wire
-  left-wires = keep (λ w. not (f w)) (s .wires)
-
+  -- the components that are left
   abbrev left-parts : List Component
   left-parts = keep (λ c. not (g c)) (s .parts)
 

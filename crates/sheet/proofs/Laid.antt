@@ -1,23 +1,21 @@
--- What the wire edit leaves: pieces of the run and the wires that stood before. No wire end and no pad lies inside one of them.
-use Prim.Native.Nat.{ℕ, _≤_, _<_}
+-- What the wire edit leaves: pieces of the run and of the wires that stood before. Where the ends come from.
 use mathlib.Core.List.{List}
 use mathlib.Core.Path.{_≡_, subst}
 use mathlib.Core.Logic.{⊎-elim, _⊎_, inl, inr}
 use native.Mathlib.Omega.{arith}
 use Rattle.lists.specs.Lists.{_∈_, insert, Rows}
-use Rattle.lists.proofs.Tests.{decide, leb-reads}
 use Rattle.lists.proofs.Lists.{keep-in, in-keep, insert-in}
 use Rattle.symbol.specs.declared.Point.{Point}
 use Rattle.sheet.specs.declared.Wire.{Wire}
-use Rattle.sheet.specs.Lines.{along, across, at, tips, marks, EndAt, first, Ends, Inside, On, Meets, Side, low, high, Before}
+use Rattle.sheet.specs.Lines.{at, tips, marks, EndAt, first, Ends, Inside, On, Meets, Side, Before}
 use Rattle.sheet.specs.Run.{standing, lay, addWire}
 use Rattle.sheet.specs.Wiring.{AllFit}
-use Rattle.sheet.proofs.Lines.{on-reads, same-dir, end-on, inside-end, tips-in, HasEnd, marks-in, in-marks}
+use Rattle.sheet.proofs.Lines.{on-reads, same-dir, tips-in, HasEnd, marks-in, in-marks}
 use Rattle.sheet.proofs.Before.{insert-order}
-use Rattle.sheet.proofs.Pieces.{within-inside, piece-end, Within, Piece}
+use Rattle.sheet.proofs.Pieces.{piece-end, Within, Piece}
 use Rattle.sheet.proofs.Split.{all-from, all-clean, all-order}
 use Rattle.sheet.proofs.Reach.{Reached}
-use Rattle.sheet.proofs.Rest.{runOf, restOf, reach, run-fits, rest-in, rest-clean, rest-fits, rest-order, rest-apart, Draws}
+use Rattle.sheet.proofs.Rest.{runOf, restOf, reach, run-fits, rest-in, rest-fits, rest-order, rest-apart, Draws}
 
 -- the wires after the edit, and where the run is cut
 abbrev pub laidOf : Draws → List Wire
@@ -48,7 +46,7 @@ module _ (E : Draws) where
       (λ (i : t .0 ∈ restOf E). inr (t .0, i, t .2))
       (insert-in first (runOf E) (restOf E) (t .1))
 
-  laid-clean : {q : Point} {v : Wire} → v ∈ laidOf E → q ∈ cutsOf E → Inside q v → ⊥
+  pub laid-clean : {q : Point} {v : Wire} → v ∈ laidOf E → q ∈ cutsOf E → Inside q v → ⊥
   unfolding addWire lay
   laid-clean m j i = all-clean (cutsOf E) (insert first (runOf E) (restOf E)) m j i
 
@@ -89,67 +87,13 @@ module _ (E : Draws) where
       go (inr t) = inr (t .0, t .1, t .2, onto (reach E .met (t .0) (t .1) (t .2)) (t .3))
 
   -- such a point was a mark before the edit, or is an end of the wire as drawn
-  abbrev Old : Point → Type 0
+  abbrev pub Old : Point → Type 0
   Old q = (q ∈ marks (E .wires) (E .pads)) ⊎ EndAt q (E .new)
 
-  spot-old : {q : Point} → Spot q → Old q
+  pub spot-old : {q : Point} → Spot q → Old q
   spot-old {q} (inl m) = go (marks-in (restOf E) m)
     where
       go : HasEnd q (restOf E) ⊎ (q ∈ E .pads) → Old q
       go (inr p) = inl (in-marks (inr p))
       go (inl (w, k, (s, e))) = let t = rest-in E k in ⊎-elim (λ (x : Ends s q (t .0)). inl (in-marks (inl (t .0, t .1, (s, x))))) (λ (x : q ∈ tips (E .new) × Inside q (t .0)). inr (tips-in (x .0))) (piece-end (t .3) e)
   spot-old {q} (inr (s, e)) = ⊎-elim (λ (x : Ends s q (E .new)). inr (s, x)) (λ (t : (w : Wire) × w ∈ E .wires × Meets (E .new) w × Ends s q w). inl (in-marks (inl (t .0, t .1, (s, t .3))))) (run-end e)
-
-  -- ---- rule 3
-
-  -- a point's place along the new wire
-  abbrev alongNew : Point → ℕ
-  alongNew q = along (E .new .vertical) q
-
-  -- a point inside the run is on the wire as drawn, or inside a wire that is taken out
-  pub inside-run : {q : Point} → Inside q (runOf E) → On q (E .new) ⊎ ((r : Wire) × r ∈ E .wires × Inside q r)
-  inside-run {q} i = go (decide (leb-reads (E .new .start) (alongNew q))) (decide (leb-reads (alongNew q) (E .new .end))) (reach E .tip low) (reach E .tip high)
-    where
-      D : Within (runOf E) (E .new)
-      D = reach E .drawn
-
-      a : (alongNew q ≡ along (runOf E .vertical) q) × (across (E .new .vertical) q ≡ across (runOf E .vertical) q)
-      a = same-dir (D .dir) q
-
-      taken : {r : Wire} → r ∈ E .wires → Meets (E .new) r → r .start < alongNew q → alongNew q < r .end → On q (E .new) ⊎ ((r : Wire) × r ∈ E .wires × Inside q r)
-      taken {r} m t y z = let b = same-dir (t .dir) q in inr (r, m, record { line = omega (arith, b, a, i .line, D .line, t .line); from = omega (arith, b); to = omega (arith, b) })
-
-      go : (E .new .start ≤ alongNew q) ⊎ (E .new .start ≤ alongNew q → ⊥) → (alongNew q ≤ E .new .end) ⊎ (alongNew q ≤ E .new .end → ⊥)
-          → Reached (E .new) (E .wires) (runOf E) low → Reached (E .new) (E .wires) (runOf E) high → On q (E .new) ⊎ ((r : Wire) × r ∈ E .wires × Inside q r)
-      go (inl y) (inl z) s e = inl (record { line = omega (arith, a, i .line, D .line); from = y; to = z })
-      go (inr y) z (inl e) s = absurd (omega (arith, a, i .from))
-      go (inr y) z (inr t) s = taken (t .1) (t .2) (omega (arith, a, i .from, t .3)) (omega (arith, t .2 .to))
-      go (inl y) (inr z) s (inl e) = absurd (omega (arith, a, i .to))
-      go (inl y) (inr z) s (inr t) = taken (t .1) (t .2) (omega (arith, t .2 .from)) (omega (arith, a, i .to, t .3))
-
-  -- a mark inside the run is a cut
-  run-cut : {q : Point} → Spot q → Inside q (runOf E) → q ∈ cutsOf E
-  run-cut (inr e) i = absurd (inside-end (e .1) i)
-  run-cut {q} (inl j) i = in-cuts j (place (spot-old (inl j)) (inside-run i))
-    where
-      place : Old q → On q (E .new) ⊎ ((r : Wire) × r ∈ E .wires × Inside q r) → On q (E .new)
-      place x (inl o) = o
-      place (inl x) (inr t) = absurd (E .law .clean .clear q x (t .0) (t .1) (t .2))
-      place (inr e) (inr t) = end-on (E .fit) (e .1)
-
-  -- and none is inside what stands before the run goes in
-  pub rest-clear : {q : Point} {w : Wire} → Spot q → w ∈ restOf E → Inside q w → ⊥
-  rest-clear {q} {w} s m i = go (spot-old s)
-    where
-      go : Old q → ⊥
-      go (inl x) = let k = rest-in E m in E .law .clean .clear q x (k .0) (k .1) (within-inside (k .3 .within) i)
-      go (inr e) = rest-clean E m e i
-
-  pub laid-clear : (q : Point) → q ∈ marks (laidOf E) (E .pads) → (v : Wire) → v ∈ laidOf E → Inside q v → ⊥
-  laid-clear q j v m i = ⊎-elim
-      (λ (p : Piece (cutsOf E) (runOf E) v). laid-clean m (run-cut spot (within-inside (p .within) i)) i)
-      (λ (t : (w : Wire) × w ∈ restOf E × Piece (cutsOf E) w v). rest-clear spot (t .1) (within-inside (t .2 .within) i))
-      (laid-in m)
-    where
-      spot : Spot q
-      spot = ⊎-elim (λ (h : HasEnd q (laidOf E)). laid-spot (h .1) (h .2)) (λ (p : q ∈ E .pads). inl (in-marks (inr p))) (marks-in (laidOf E) j)

@@ -17,7 +17,8 @@ use Rattle.sheet.proofs.Pieces.{Cut, within-on, Within, Piece}
 use Rattle.sheet.proofs.Split.{all-cover, all-none, all-untouched}
 use Rattle.sheet.proofs.Reach.{Reached, run-reaches, within-meets, Upto, upto-same, within-upto, on-upto, Reaches}
 use Rattle.sheet.proofs.Rest.{runOf, restOf, kept-in, in-kept, kept-order, reach, run-fits, rest-free, rest-clean, rest-order, Draws}
-use Rattle.sheet.proofs.Laid.{laidOf, cutsOf, cuts-in, laid-in, laid-fits, laid-order, rest-clear}
+use Rattle.sheet.proofs.Laid.{laidOf, cutsOf, cuts-in, laid-in, laid-fits, laid-order}
+use Rattle.sheet.proofs.LaidClear.{rest-clear}
 
 module _ (E : Draws) where
   run-meets : {v : Wire} → Piece (cutsOf E) (runOf E) v → Meets (E .new) v

@@ -19,7 +19,8 @@ use Rattle.sheet.proofs.Pieces.{within-on, piece-end, Piece}
 use Rattle.sheet.proofs.Split.{end-stays, cut-end}
 use Rattle.sheet.proofs.Reach.{on-meets, within-meets}
 use Rattle.sheet.proofs.Rest.{runOf, restOf, reach, run-fits, rest-in, rest-free, rest-fits, rest-ended, rest-apart, Draws}
-use Rattle.sheet.proofs.Laid.{laidOf, cutsOf, Laid, cuts-in, in-cuts, laid-in, laid-fits, laid-order, Spot, laid-spot, run-end, inside-run, laid-clear}
+use Rattle.sheet.proofs.Laid.{laidOf, cutsOf, Laid, cuts-in, in-cuts, laid-in, laid-fits, laid-order, Spot, laid-spot, run-end}
+use Rattle.sheet.proofs.LaidClear.{inside-run, laid-clear}
 
 module _ (E : Draws) where
   -- what holds wires of direction d apart at q in the result
@@ -75,7 +76,7 @@ module _ (E : Draws) where
     held-off : {a b : Wire} → a ∈ laidOf E → b ∈ laidOf E → a .vertical ≡ b .vertical → Ends high q a → Ends low q b → Holds (a .vertical) q
     held-off {a} ma mb d x y =
         let s = old-end ma x in let t = old-end mb y in
-        still (subst (λ c. Held (E .wires) (E .pads) c q) (s .2) (held-at (E .law) high (s .1) (t .1) (s .2 ∙ d ∙ sym (t .2)) (s .3) (t .3)))
+        still (subst (λ c. Held (E .wires) (E .pads) c q) (s .2) (held-at (E .law) (s .1) (t .1) (s .2 ∙ d ∙ sym (t .2)) (s .3) (t .3)))
       where
         still : Held (E .wires) (E .pads) (a .vertical) q → Holds (a .vertical) q
         still (inr p) = inr p

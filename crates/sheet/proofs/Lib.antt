@@ -10,11 +10,13 @@ pub mod SplitWired
 -- Merging.
 pub mod Held
 pub mod Merged
+pub mod Seams
 pub mod Merge
 -- The wire edit.
 pub mod Reach
 pub mod Rest
 pub mod Laid
+pub mod LaidClear
 pub mod LaidWired
 pub mod LaidAgain
 pub mod LaidPieces

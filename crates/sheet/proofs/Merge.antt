@@ -17,7 +17,8 @@ use Rattle.sheet.proofs.Lines.{same-dir, ends-at, HasEnd, marks-in, in-
 use Rattle.sheet.proofs.Before.{ends-apart, follows-next}
 use Rattle.sheet.proofs.Wiring.{ended-as}
 use Rattle.sheet.proofs.Held.{held-reads, joins-reads, not-joined, joins-follow, joins-join, glue-joined, glue-apart, Unjoined, merge-unjoined, merge-idle}
-use Rattle.sheet.proofs.Merged.{merged, merged-kin, merged-fits, merged-order, merged-inner, merged-stay, Covered, Seam, Merged}
+use Rattle.sheet.proofs.Merged.{merged, merged-kin, merged-fits, merged-order, Merged}
+use Rattle.sheet.proofs.Seams.{merged-inner, merged-stay, Covered, Seam}
 
 -- taking wires and pads away leaves the rest clean
 pub clean-keep : (f : Wire → Bool) {ws : List Wire} {ps qs : List Point} → ((p : Point) → p ∈ qs → p ∈ ps) → Clean ws ps → Clean (keep f ws) qs

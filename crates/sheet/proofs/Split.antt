@@ -31,15 +31,15 @@ unfolding splitAt gather
 split-none p [] f = refl
 split-none p (w ∷ ws) f = rw (one-none p (f w (∈-head refl)), split-none p ws (λ v m. f v (∈-tail m)))
 
--- rows with more rows behind them
-rows-behind : {vs ws : List Wire} → Rows Before vs → ((v w : Wire) → v ∈ vs → w ∈ ws → Before v w) → Rows Before ws → Rows Before (vs ++ ws)
-rows-behind none f o = o
-rows-behind {ws = ws} (more {x = v} {xs = vs} h s) f o = more (λ u m. ⊎-elim (h u) (λ (k : u ∈ ws). f v u (∈-head refl) k) (∈-append vs m)) (rows-behind s (λ u w m n. f u w (∈-tail m) n) o)
+-- for lists: rows with more rows behind them
+rows-append : {A : Type 0} {R : A → A → Type 0} {xs ys : List A} → Rows R xs → ((x y : A) → x ∈ xs → y ∈ ys → R x y) → Rows R ys → Rows R (xs ++ ys)
+rows-append none f o = o
+rows-append {ys = ys} (more {x} {xs} h s) f o = more (λ u m. ⊎-elim (h u) (λ (k : u ∈ ys). f x u (∈-head refl) k) (∈-append xs m)) (rows-append s (λ u w m n. f u w (∈-tail m) n) o)
 
 split-order : (p : Point) {ws : List Wire} → Rows Before ws → Rows Before (splitAt p ws)
 unfolding splitAt gather
 split-order p none = none
-split-order p (more {x = w} {xs = ws} h s) = rows-behind (one p w .order)
+split-order p (more {x = w} {xs = ws} h s) = rows-append (one p w .order)
     (λ v u m n. let t = gather-in (splitOne p) ws n in within-before (one p w .from v m .within) (one p (t .0) .from u (t .2) .within) (h (t .0) (t .1)))
     (split-order p s)
 

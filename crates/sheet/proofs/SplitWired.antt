@@ -43,7 +43,7 @@ module _ (new : List Point) {ws : List Wire} {ps : List Point} (law : Wired ws p
       go : Ends high (tip high a) (ta .0) ⊎ (tip high a ∈ new × Inside (tip high a) (ta .0)) → Ends low (tip high a) (tb .0) ⊎ (tip high a ∈ new × Inside (tip high a) (tb .0)) → Held (splitAll new ws) (new ++ ps) (a .vertical) (tip high a)
       go (inr x) y = inr (∈-left ps (x .0))
       go (inl x) (inr y) = inr (∈-left ps (y .0))
-      go (inl x) (inl y) = move (subst (λ d. Held ws ps d (tip high a)) (sym (ta .2 .within .dir)) (held-at law high (ta .1) (tb .1) (sym (ta .2 .within .dir) ∙ f .dir ∙ tb .2 .within .dir) x y))
+      go (inl x) (inl y) = move (subst (λ d. Held ws ps d (tip high a)) (sym (ta .2 .within .dir)) (held-at law (ta .1) (tb .1) (sym (ta .2 .within .dir) ∙ f .dir ∙ tb .2 .within .dir) x y))
 
   pub split-wired : Wired (splitAll new ws) (new ++ ps)
   split-wired = record { clean = record { fits = λ v m. let t = all-from new m in t .2 .fits (law .clean .fits (t .0) (t .1)); order = all-order new (law .clean .order); clear = clear }; anchored = anchored }

@@ -1,4 +1,4 @@
--- Wires that go on in line, and what holds them apart: rule 4 from either side.
+-- Wires that go on in line, and what holds them apart.
 use mathlib.Core.Bool.{Bool, not}
 use mathlib.Core.List.{List}
 use mathlib.Core.Path.{_≡_, sym, subst, _∙_}
@@ -7,7 +7,7 @@ use native.Mathlib.Omega.{arith}
 use Rattle.lists.specs.Lists.{_∈_}
 use Rattle.symbol.specs.declared.Point.{Point}
 use Rattle.sheet.specs.declared.Wire.{Wire}
-use Rattle.sheet.specs.Lines.{other, tip, Ends, Follows, Side, low, high}
+use Rattle.sheet.specs.Lines.{tip, Ends, Follows, low, high}
 use Rattle.sheet.specs.Wiring.{Held, Ended, Wired}
 use Rattle.sheet.proofs.Lines.{same-dir, ends-at, ends-is, HasEnd, marks-in, in-marks}
 
@@ -21,17 +21,9 @@ follows-end {a} f = let e = ends-at high a in let t = same-dir (f .dir) (tip hig
 pub ended-as : {ws : List Wire} {d e : Bool} {p : Point} → Ended ws d p → d ≡ e → Ended ws e p
 ended-as t x = record { wire = t .wire; among = t .among; dir = t .dir ∙ x; here = t .here }
 
--- rule 4, from either side
-
-pub held-at : {ws : List Wire} {ps : List Point} → Wired ws ps → (s : Side) {p : Point} {a b : Wire} → a ∈ ws → b ∈ ws → a .vertical ≡ b .vertical → Ends s p a → Ends (other s) p b → Held ws ps (a .vertical) p
-held-at {ws} {ps} l s {p} {a} {b} m n d = go s
-  where
-    forth : {a b : Wire} → a ∈ ws → b ∈ ws → a .vertical ≡ b .vertical → Ends high p a → Ends low p b → Held ws ps (a .vertical) p
-    forth {a} {b} m n d e f = subst (Held ws ps (a .vertical)) (sym (ends-is e)) (l .anchored a b m n (ends-follow d e f))
-
-    go : (s : Side) → Ends s p a → Ends (other s) p b → Held ws ps (a .vertical) p
-    go high e f = forth m n d e f
-    go low e f = subst (λ c. Held ws ps c p) (sym d) (forth n m (sym d) f e)
+-- rule 4 at a point
+pub held-at : {ws : List Wire} {ps : List Point} → Wired ws ps → {p : Point} {a b : Wire} → a ∈ ws → b ∈ ws → a .vertical ≡ b .vertical → Ends high p a → Ends low p b → Held ws ps (a .vertical) p
+held-at {ws} {ps} l {a = a} {b} m n d e f = subst (Held ws ps (a .vertical)) (sym (ends-is e)) (l .anchored a b m n (ends-follow d e f))
 
 -- only which points are pads counts
 pub wired-pads : {ws : List Wire} {ps qs : List Point} → ((p : Point) → p ∈ ps → p ∈ qs) → ((p : Point) → p ∈ qs → p ∈ ps) → Wired ws ps → Wired ws qs
