@@ -1,8 +1,7 @@
 -- A sheet is a list of wires and a list of components, both in row order; a drawing is its tables, with the joints counted.
-use Prim.Native.Nat.{ℕ}
 use mathlib.Core.Bool.{false}
 use mathlib.Core.List.{List, []}
-use lib.IntN.{pos}
+use mathlib.Core.Path.{_≡_}
 use lib.ListN.{length, take, replicate}
 use Rattle.lists.specs.Tables.{pad}
 use Rattle.orientation.specs.Orientations.{zeros}
@@ -42,7 +41,7 @@ abbrev pub zeroWire : Wire
 zeroWire = record { vertical = false; line = 0; start = 0; end = 0 }
 
 abbrev pub zeroComponent : Component
-zeroComponent = record { kind = 0; rot_mirror = zeros; x = 0; y = 0; label = replicate 16 0 }
+zeroComponent = record { kind = 0; «rot_mirror» = zeros; x = 0; y = 0; label = replicate 16 0 }
 
 abbrev pub zeroJoint : Joint
 zeroJoint = record { x = 0; y = 0; count = 0 }
@@ -74,6 +73,12 @@ listsOf d = record { wires = wireRows (d .wires); parts = componentRows (d .comp
 -- the drawing of a sheet
 unfoldable pub drawn : Sheet → Drawing
 drawn s = record { wires = wireTable (s .wires); components = componentTable (s .parts); joints = jointTable (joints s) }
+
+-- the arrays have their declared lengths, as in every drawing that code holds; the type of a drawing's value does not say so
+pub record Sized (d : Drawing) : Type 0 where
+  pub wires : length (d .wires .rows) ≡ 512
+  pub components : length (d .components .rows) ≡ 128
+  pub joints : length (d .joints .rows) ≡ 1408
 
 -- "the numbers of wires, joints and components and the sum of all joint counts"
 unfoldable pub tallyOf : Sheet → Tally

@@ -10,3 +10,4 @@ pub mod Drawings
 pub mod Edits
 pub mod Wiring
 pub mod Rules
+pub mod Examples

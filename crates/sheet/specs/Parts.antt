@@ -1,5 +1,5 @@
 -- Components: a symbol, turned and moved to its position.
-use Prim.Native.Nat.{ℕ, _≤_}
+use Prim.Native.Nat.{_≤_}
 use mathlib.Core.Bool.{Bool}
 use mathlib.Core.List.{List}
 use lib.Dec.{T, eqb}
@@ -19,11 +19,11 @@ position c = record { x = c .x; y = c .y }
 
 -- the component's box
 unfoldable pub box : Component → Bounds
-box c = boundsAt (c .kind) (c .rot_mirror) (c .x) (c .y)
+box c = boundsAt (c .kind) (c .«rot_mirror») (c .x) (c .y)
 
 -- the component's pads, in symbol order
 unfoldable pub pads : Component → List Point
-pads c = padPoints (c .kind) (c .rot_mirror) (c .x) (c .y)
+pads c = padPoints (c .kind) (c .«rot_mirror») (c .x) (c .y)
 
 -- the pads of all components
 abbrev pub padsOf : List Component → List Point
@@ -41,7 +41,7 @@ ahead b c = rises (position b) (position c)
 -- −5,800 to 5,800. Label: 0 to 16 bytes, each 0x21 to 0x7E, held in 16 bytes with zeros behind."
 pub record PartFits (c : Component) : Type 0 where
   pub kind : c .kind ≤ 2
-  pub orientation : T (known (c .rot_mirror))
+  pub orientation : T (known (c .«rot_mirror»))
   pub x : (200 ≤ c .x) × (c .x ≤ 11800)
   pub y : (200 ≤ c .y) × (c .y ≤ 11800)
   pub label : T (labelOk (c .label))
@@ -52,7 +52,7 @@ isContact c = eqb (c .kind) 1
 
 -- the component with another orientation
 abbrev pub reoriented : (RotMirror → RotMirror) → Component → Component
-reoriented f c = record { kind = c .kind; rot_mirror = f (c .rot_mirror); x = c .x; y = c .y; label = c .label }
+reoriented f c = record { kind = c .kind; «rot_mirror» = f (c .«rot_mirror»); x = c .x; y = c .y; label = c .label }
 
 -- turned right in its place
 abbrev pub turnedRight : Component → Component
