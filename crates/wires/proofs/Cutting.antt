@@ -15,9 +15,10 @@ use Rattle.sheet.specs.Lines.{low, high, tip, tips, ends, on, first}
 use Rattle.sheet.specs.Split.{splitAll}
 use Rattle.sheet.specs.Run.{kept, run, rest, standing, lay, addWire}
 use Rattle.sheet.specs.Drawings.{wireRows}
+use Rattle.sheet.proofs.Split.{split-all-no-shorter, split-all-append}
 use Rattle.wires.specs.declared.Grown.{Grown}
 use Rattle.wires.specs.Tables.{Grows, Cut}
-use Rattle.wires.proofs.Growing.{split-all-no-shorter, split-all-append, grows-as, grows-full, when-room, when-full, still-full, cut-as, cut-more}
+use Rattle.wires.proofs.Growing.{grows-as, grows-full, when-room, when-full, still-full, cut-as, cut-more}
 
 -- a test of both ends of a wire
 pub any-tips : (f : Point → Bool) (w : Wire) {a b : Point} {x y : Bool} → x ≡ f a → y ≡ f b → a ≡ tip low w → b ≡ tip high w → (x || y) ≡ any f (tips w)
@@ -40,9 +41,9 @@ module _ (f : Point → Bool) where
       (cut-more (cut-as (ap (λ (z : Point). keep f (z ∷ [])) e) p) (cut-as (ap (λ (z : Point). keep f (z ∷ [])) g) q))
 
 -- what is kept, split at both ends of the new wire
-pub tips-split : (n : Wire) {ws : List Wire} {a b : Point} {g h r : Grown} → Grows (kept n ws) g → Cut (a ∷ []) g h → Cut (b ∷ []) h r → a ≡ tip low n → b ≡ tip high n → Grows (rest n ws) r
+pub tips-split : (n : Wire) (ws : List Wire) {a b : Point} {g h r : Grown} → Grows (kept n ws) g → Cut (a ∷ []) g h → Cut (b ∷ []) h r → a ≡ tip low n → b ≡ tip high n → Grows (rest n ws) r
 unfolding rest
-tips-split n {ws} o p q e f = grows-as (λ i. splitAll (e i ∷ f i ∷ []) (kept n ws)) (cut-more p q .so (kept n ws) o)
+tips-split n ws o p q e f = grows-as (λ i. splitAll (e i ∷ f i ∷ []) (kept n ws)) (cut-more p q .so (kept n ws) o)
 
 -- at the standing wire ends, then at the standing pads
 standing-split : (n : Wire) (ws : List Wire) (ps : List Point) (vs : List Wire) → splitAll (standing n ws ps) vs ≡ splitAll (keep (λ p. on p n) ps) (splitAll (keep (λ p. on p n) (ends ws)) vs)

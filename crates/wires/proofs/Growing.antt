@@ -1,47 +1,21 @@
 -- A table with room or without: what `Grows` and `Cut` say by cases, how cuts follow one another, and that the contracts leave one answer.
-use Prim.Native.Nat.{ℕ, _≤_, _<_}
+use Prim.Native.Nat.{_≤_, _<_}
 use native.Mathlib.Omega.{arith}
-use mathlib.Core.Path.{_≡_, refl, sym, ap, _∙_, subst}
+use mathlib.Core.Path.{_≡_, sym, ap, _∙_, subst}
 use mathlib.Core.List.{List, [], _∷_, _++_}
 use mathlib.Core.Bool.{Bool, true, false, cond}
 use borrow.Author.Tests.{lt-ltb, le-ltb, ltb-true}
-use lib.ListN.{length, length-append}
+use lib.ListN.{length}
 use Rattle.symbol.specs.declared.Point.{Point}
-use Rattle.lists.specs.Lists.{gather}
 use Rattle.lists.specs.Tables.{pad}
 use Rattle.lists.proofs.Tables.{holds-list, holds-self, holds-count}
 use Rattle.sheet.specs.declared.Wire.{Wire}
 use Rattle.sheet.specs.declared.Wires.{Wires}
-use Rattle.sheet.specs.Lines.{inside}
-use Rattle.sheet.specs.Split.{left, right, splitOne, splitAt, splitAll}
+use Rattle.sheet.specs.Split.{splitAt, splitAll}
 use Rattle.sheet.specs.Drawings.{zeroWire, wireTable, wireRows}
+use Rattle.sheet.proofs.Split.{split-no-shorter, split-all-append}
 use Rattle.wires.specs.declared.Grown.{Grown}
 use Rattle.wires.specs.Tables.{Tabled, Grows, Cut, grown}
-
--- ---- splitting never takes rows away (for sheet: split-no-shorter, split-all-no-shorter, split-all-append)
-
-one-no-shorter : (p : Point) (w : Wire) → 1 ≤ length (splitOne p w)
-unfolding splitOne
-one-no-shorter p w = step (inside p w)
-  where
-    step : (b : Bool) → 1 ≤ length (cond b (left p w ∷ right p w ∷ []) (w ∷ []))
-    step true = omega arith
-    step false = omega arith
-
-split-no-shorter : (p : Point) (ws : List Wire) → length ws ≤ length (splitAt p ws)
-unfolding splitAt gather
-split-no-shorter p [] = omega arith
-split-no-shorter p (w ∷ ws) = omega (arith, length-append (splitOne p w) (gather (splitOne p) ws), one-no-shorter p w, split-no-shorter p ws)
-
-pub split-all-no-shorter : (ps : List Point) (ws : List Wire) → length ws ≤ length (splitAll ps ws)
-unfolding splitAll
-split-all-no-shorter [] ws = omega arith
-split-all-no-shorter (p ∷ ps) ws = omega (arith, split-no-shorter p ws, split-all-no-shorter ps (splitAt p ws))
-
-pub split-all-append : (ps qs : List Point) (ws : List Wire) → splitAll (ps ++ qs) ws ≡ splitAll qs (splitAll ps ws)
-unfolding splitAll
-split-all-append [] qs ws = refl
-split-all-append (p ∷ ps) qs ws = split-all-append ps qs (splitAt p ws)
 
 -- ---- Grows
 

@@ -7,18 +7,18 @@ ghost use Rattle.sheet.specs.Lines;
 ghost use Rattle.sheet.specs.Run;
 ghost use Rattle.sheet.specs.Drawings.{wireRows};
 ghost use Rattle.wires.specs.Tables.{pointRows, Grows, Cut};
+use crate::Grown;
+use crate::Points;
+use crate::insert::insert_more;
+use crate::lines::high_tip;
+use crate::lines::low_tip;
+use crate::lines::on;
+use crate::run::keep_unmet;
+use crate::run::run_of;
+use crate::split::split_more;
 use sheet::Wire;
 use sheet::Wires;
 use symbol::Point;
-use crate::Grown;
-use crate::Points;
-use crate::lines::low_tip;
-use crate::lines::high_tip;
-use crate::lines::on;
-use crate::split::split_more;
-use crate::insert::insert_more;
-use crate::run::keep_unmet;
-use crate::run::run_of;
 
 // What the new wire does not meet, split at both its ends as drawn.
 fn rest_of(ws: Wires, n: Wire) -> Grown

@@ -7,14 +7,14 @@ ghost use Rattle.sheet.specs.Merge;
 ghost use Rattle.sheet.specs.Drawings.{wireRows};
 ghost use Rattle.wires.specs.Tables.{pointRows, Tabled};
 ghost use Rattle.wires.specs.Holding.{endsAcross};
+use crate::Points;
+use crate::lines::high_tip;
+use crate::lines::low_tip;
+use crate::lines::same;
+use crate::no_wires;
 use sheet::Wire;
 use sheet::Wires;
 use symbol::Point;
-use crate::Points;
-use crate::no_wires;
-use crate::lines::low_tip;
-use crate::lines::high_tip;
-use crate::lines::same;
 
 // The wire is of the other direction and has an end at p.
 fn ends_across(vertical: bool, p: Point, w: Wire) -> bool

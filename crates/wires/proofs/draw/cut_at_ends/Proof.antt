@@ -1,51 +1,56 @@
+-- A pass over the wires: each cuts at its ends that lie on n; a wire with none cuts nothing.
+use Prim.Native.Nat.{_≤_, _-_}
+use mathlib.Core.Logic.{⊎-elim}
+use mathlib.Core.Path.{_≡_, sym, _∙_}
+use lib.ListN.{length}
+use Rattle.sheet.specs.Lines.{tips, on, ends}
+use Rattle.lists.specs.Lists.{keep}
+use Rattle.lists.proofs.Tables.{long}
+use Rattle.lists.proofs.Passes.{Pass, pass-start, pass-next, pass-skip, pass-end, keep-nothing, gather-keep}
+use mathlib.Core.Path.{refl}
+use Rattle.wires.specs.Tables.{Cut}
+use Rattle.wires.proofs.Growing.{cut-none, cut-more, cut-as}
+use native.Mathlib.Omega.{arith}
 use Rattle.wires.proofs.draw.cut_at_ends.Statement.{statement}
 use Rattle.wires.proofs.draw.cut_at_ends.Tie as tie
-use Rattle.wires.proofs.draw.cut_at_ends.Reads as reads
-use Rattle.wires.proofs.draw.cut_at_ends.Lts as lts
-use Rattle.wires.proofs.draw.cut_tips.Reads as cut-tips-reads
-use Rattle.wires.proofs.draw.reaches.Reads as reaches-reads
 
 abbrev Inv-loop : tie.InvT-loop
-Inv-loop n ws m out₀ i₀ out i = ?
+Inv-loop n ws m out₀ i₀ out i = (i ≤ m) × (length (ws .rows) ≡ 512) × Pass (λ ps r. Cut ps out₀ r) (λ w. keep (λ p. on p n) (tips w)) (ws .rows) i out
 
 abbrev μ-loop : tie.MeasureT-loop
-μ-loop n ws m out₀ i₀ out i = ?
+μ-loop n ws m out₀ i₀ out i = m - i
 
--- src/draw.rt:75:5
 loop-holds : tie.Need-loop-holds Inv-loop μ-loop
-loop-holds c = ?
+loop-holds c = (omega arith, search long, pass-start _ _ (cut-none _ (c .pre .0)))
 
--- src/draw.rt:76:17
 mul-w : tie.Need-mul-w Inv-loop μ-loop
-mul-w c = ?
+mul-w c = omega arith
 
--- src/draw.rt:76:17
 element-copy-out-w : tie.Need-element-copy-out-w Inv-loop μ-loop
-element-copy-out-w c = ?
+element-copy-out-w c = omega arith
 
--- src/draw.rt:77:12
 reaches-requires : tie.Need-reaches-requires Inv-loop μ-loop
-reaches-requires c κs = ?
+reaches-requires c κs = tt
 
--- src/draw.rt:78:13
 cut-tips-requires : tie.Need-cut-tips-requires Inv-loop μ-loop
-cut-tips-requires c κs = ?
+cut-tips-requires c κs = c .before .before .before .before .loop .inv .2 .so-far .room
 
--- src/draw.rt:80:9
 add-i : tie.Need-add-i Inv-loop μ-loop
-add-i c = ?
+add-i c = omega arith
 
--- src/draw.rt:75:5
 loop-less : tie.Need-loop-less Inv-loop μ-loop
-loop-less c = ?
+loop-less c = omega arith
 
--- src/draw.rt:75:5
 loop-again : tie.Need-loop-again Inv-loop μ-loop
-loop-again c = ?
+loop-again c = let s = c .before .before .before .before .loop .inv .2 in
+    ⊎-elim
+    (λ v. (omega arith, omega arith, rw (v .2) (pass-next _ s refl (cut-more (s .so-far) (v .1 .ensures)) (omega arith))))
+    (λ v. (omega arith, omega arith, rw (v .1) (pass-skip _ s (keep-nothing _ _ (sym (c .before .reaches .ensures) ∙ v .0 .left)) (omega arith))))
+    (c .if1 .came)
 
--- src/draw.rt:68:1
 returns : tie.Need-returns Inv-loop μ-loop
-returns c = ?
+unfolding ends
+returns c = cut-as (gather-keep (λ p. on p (c .before .before .args .n)) tips _) (pass-end (c .before .before .args .t3 .count) (c .before .loop .inv .2) (omega arith))
 
 pub cut-at-ends-spec : {M : Type 1} → statement M
 cut-at-ends-spec =

@@ -1,51 +1,53 @@
+-- A pass over the pads: each that lies on n cuts.
+use Prim.Native.Nat.{_≤_, _-_}
+use mathlib.Core.Logic.{⊎-elim}
+use mathlib.Core.Path.{_≡_, sym, _∙_}
+use lib.ListN.{length}
+use Rattle.sheet.specs.Lines.{on}
+use Rattle.lists.proofs.Tables.{long}
+use Rattle.lists.proofs.Passes.{Pass, pass-start, pass-next, pass-skip, pass-end, only, only-yes, only-no, keep-gather}
+use Rattle.wires.specs.Tables.{Cut}
+use Rattle.wires.proofs.Growing.{cut-none, cut-more, cut-as}
+use native.Mathlib.Omega.{arith}
 use Rattle.wires.proofs.draw.cut_at_pads.Statement.{statement}
 use Rattle.wires.proofs.draw.cut_at_pads.Tie as tie
-use Rattle.wires.proofs.draw.cut_at_pads.Reads as reads
-use Rattle.wires.proofs.draw.cut_at_pads.Lts as lts
-use Rattle.wires.proofs.lines.on.Reads as on-reads
-use Rattle.wires.proofs.split.split_more.Reads as split-more-reads
 
 abbrev Inv-loop : tie.InvT-loop
-Inv-loop n pads m out₀ i₀ out i = ?
+Inv-loop n pads m out₀ i₀ out i = (i ≤ m) × (length (pads .rows) ≡ 384) × Pass (λ ps r. Cut ps out₀ r) (only (λ p. on p n)) (pads .rows) i out
 
 abbrev μ-loop : tie.MeasureT-loop
-μ-loop n pads m out₀ i₀ out i = ?
+μ-loop n pads m out₀ i₀ out i = m - i
 
--- src/draw.rt:93:5
 loop-holds : tie.Need-loop-holds Inv-loop μ-loop
-loop-holds c = ?
+loop-holds c = (omega arith, search long, pass-start _ _ (cut-none _ (c .pre .0)))
 
--- src/draw.rt:94:17
 mul-p : tie.Need-mul-p Inv-loop μ-loop
-mul-p c = ?
+mul-p c = omega arith
 
--- src/draw.rt:94:17
 element-copy-out-p : tie.Need-element-copy-out-p Inv-loop μ-loop
-element-copy-out-p c = ?
+element-copy-out-p c = omega arith
 
--- src/draw.rt:95:12
 on-requires : tie.Need-on-requires Inv-loop μ-loop
-on-requires c κs = ?
+on-requires c κs = tt
 
--- src/draw.rt:96:13
 split-more-requires : tie.Need-split-more-requires Inv-loop μ-loop
-split-more-requires c κs = ?
+split-more-requires c κs = c .before .before .before .before .loop .inv .2 .so-far .room
 
--- src/draw.rt:98:9
 add-i : tie.Need-add-i Inv-loop μ-loop
-add-i c = ?
+add-i c = omega arith
 
--- src/draw.rt:93:5
 loop-less : tie.Need-loop-less Inv-loop μ-loop
-loop-less c = ?
+loop-less c = omega arith
 
--- src/draw.rt:93:5
 loop-again : tie.Need-loop-again Inv-loop μ-loop
-loop-again c = ?
+loop-again c = let s = c .before .before .before .before .loop .inv .2 in
+    ⊎-elim
+    (λ v. (omega arith, omega arith, rw (v .2) (pass-next _ s (only-yes _ _ (sym (c .before .on .ensures) ∙ v .0 .taken)) (cut-more (s .so-far) (v .1 .ensures)) (omega arith))))
+    (λ v. (omega arith, omega arith, rw (v .1) (pass-skip _ s (only-no _ _ (sym (c .before .on .ensures) ∙ v .0 .left)) (omega arith))))
+    (c .if1 .came)
 
--- src/draw.rt:86:1
 returns : tie.Need-returns Inv-loop μ-loop
-returns c = ?
+returns c = cut-as (keep-gather _ _) (pass-end (c .before .before .args .t3 .count) (c .before .loop .inv .2) (omega arith))
 
 pub cut-at-pads-spec : {M : Type 1} → statement M
 cut-at-pads-spec =

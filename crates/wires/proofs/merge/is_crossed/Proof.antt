@@ -1,50 +1,47 @@
+-- A walk: no row passed so far.
+use Prim.Native.Nat.{_≤_, _-_}
+use mathlib.Core.Path.{_≡_, sym, _∙_}
+use lib.ListN.{length, take}
+use Rattle.lists.specs.Lists.{any}
+use Rattle.wires.specs.Holding.{endsAcross}
+use Rattle.lists.proofs.Tables.{long}
+use Rattle.lists.proofs.Walks.{Rest, rest-start, any-next, any-stop, any-end}
+use native.Mathlib.Omega.{arith}
 use Rattle.wires.proofs.merge.is_crossed.Statement.{statement}
 use Rattle.wires.proofs.merge.is_crossed.Tie as tie
-use Rattle.wires.proofs.merge.is_crossed.Reads as reads
-use Rattle.wires.proofs.merge.is_crossed.Lts as lts
-use Rattle.wires.proofs.merge.ends_across.Reads as ends-across-reads
 
 abbrev Inv-loop : tie.InvT-loop
-Inv-loop vertical p ws n i₀ i = ?
+Inv-loop vertical p ws n i₀ i = (i ≤ n) × (length (ws .rows) ≡ 512) × Rest (any (endsAcross vertical p)) (ws .rows) n i (any (endsAcross vertical p) (take n (ws .rows)))
 
 abbrev μ-loop : tie.MeasureT-loop
-μ-loop vertical p ws n i₀ i = ?
+μ-loop vertical p ws n i₀ i = n - i
 
--- src/merge.rt:35:5
 loop-holds : tie.Need-loop-holds Inv-loop μ-loop
-loop-holds c = ?
+loop-holds c = (omega arith, search long, rest-start _ _ _)
 
--- src/merge.rt:36:17
 mul-w : tie.Need-mul-w Inv-loop μ-loop
-mul-w c = ?
+mul-w c = omega arith
 
--- src/merge.rt:36:17
 element-copy-out-w : tie.Need-element-copy-out-w Inv-loop μ-loop
-element-copy-out-w c = ?
+element-copy-out-w c = omega arith
 
--- src/merge.rt:37:12
 ends-across-requires : tie.Need-ends-across-requires Inv-loop μ-loop
-ends-across-requires c κs = ?
+ends-across-requires c κs = tt
 
--- src/merge.rt:38:13
 returns : tie.Need-returns Inv-loop μ-loop
-returns c = ?
+returns c = any-stop _ _ (c .before .before .before .before .loop .inv .2) (sym (c .before .ends-across .ensures) ∙ c .if1 .taken) (omega arith) (omega arith)
 
--- src/merge.rt:40:9
 add-i : tie.Need-add-i Inv-loop μ-loop
-add-i c = ?
+add-i c = omega arith
 
--- src/merge.rt:35:5
 loop-less : tie.Need-loop-less Inv-loop μ-loop
-loop-less c = ?
+loop-less c = omega arith
 
--- src/merge.rt:35:5
 loop-again : tie.Need-loop-again Inv-loop μ-loop
-loop-again c = ?
+loop-again c = (omega arith, omega arith, any-next _ _ (c .before .before .before .before .loop .inv .2) (sym (c .before .ends-across .ensures) ∙ c .if1 .left) (omega arith) (omega arith))
 
--- src/merge.rt:29:1
 returns-2 : tie.Need-returns-2 Inv-loop μ-loop
-returns-2 c = ?
+returns-2 c = any-end _ (c .before .loop .inv .2) (omega arith) (omega arith)
 
 pub is-crossed-spec : {M : Type 1} → statement M
 is-crossed-spec =

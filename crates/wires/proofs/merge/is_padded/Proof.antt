@@ -1,50 +1,47 @@
+-- A walk: no row passed so far.
+use Prim.Native.Nat.{_≤_, _-_}
+use mathlib.Core.Path.{_≡_, sym, _∙_}
+use lib.ListN.{length, take}
+use Rattle.lists.specs.Lists.{any}
+use Rattle.sheet.specs.Points.{same}
+use Rattle.lists.proofs.Tables.{long}
+use Rattle.lists.proofs.Walks.{Rest, rest-start, any-next, any-stop, any-end}
+use native.Mathlib.Omega.{arith}
 use Rattle.wires.proofs.merge.is_padded.Statement.{statement}
 use Rattle.wires.proofs.merge.is_padded.Tie as tie
-use Rattle.wires.proofs.merge.is_padded.Reads as reads
-use Rattle.wires.proofs.merge.is_padded.Lts as lts
-use Rattle.wires.proofs.lines.same.Reads as same-reads
 
 abbrev Inv-loop : tie.InvT-loop
-Inv-loop p pads n i₀ i = ?
+Inv-loop p pads n i₀ i = (i ≤ n) × (length (pads .rows) ≡ 384) × Rest (any (same p)) (pads .rows) n i (any (same p) (take n (pads .rows)))
 
 abbrev μ-loop : tie.MeasureT-loop
-μ-loop p pads n i₀ i = ?
+μ-loop p pads n i₀ i = n - i
 
--- src/merge.rt:52:5
 loop-holds : tie.Need-loop-holds Inv-loop μ-loop
-loop-holds c = ?
+loop-holds c = (omega arith, search long, rest-start _ _ _)
 
--- src/merge.rt:53:17
 mul-q : tie.Need-mul-q Inv-loop μ-loop
-mul-q c = ?
+mul-q c = omega arith
 
--- src/merge.rt:53:17
 element-copy-out-q : tie.Need-element-copy-out-q Inv-loop μ-loop
-element-copy-out-q c = ?
+element-copy-out-q c = omega arith
 
--- src/merge.rt:54:12
 same-requires : tie.Need-same-requires Inv-loop μ-loop
-same-requires c κs = ?
+same-requires c κs = tt
 
--- src/merge.rt:55:13
 returns : tie.Need-returns Inv-loop μ-loop
-returns c = ?
+returns c = any-stop _ _ (c .before .before .before .before .loop .inv .2) (sym (c .before .same .ensures) ∙ c .if1 .taken) (omega arith) (omega arith)
 
--- src/merge.rt:57:9
 add-i : tie.Need-add-i Inv-loop μ-loop
-add-i c = ?
+add-i c = omega arith
 
--- src/merge.rt:52:5
 loop-less : tie.Need-loop-less Inv-loop μ-loop
-loop-less c = ?
+loop-less c = omega arith
 
--- src/merge.rt:52:5
 loop-again : tie.Need-loop-again Inv-loop μ-loop
-loop-again c = ?
+loop-again c = (omega arith, omega arith, any-next _ _ (c .before .before .before .before .loop .inv .2) (sym (c .before .same .ensures) ∙ c .if1 .left) (omega arith) (omega arith))
 
--- src/merge.rt:46:1
 returns-2 : tie.Need-returns-2 Inv-loop μ-loop
-returns-2 c = ?
+returns-2 c = any-end _ (c .before .loop .inv .2) (omega arith) (omega arith)
 
 pub is-padded-spec : {M : Type 1} → statement M
 is-padded-spec =

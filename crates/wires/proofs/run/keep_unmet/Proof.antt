@@ -51,15 +51,10 @@ loop-less c = omega arith
 
 loop-again : tie.Need-loop-again Inv-loop μ-loop
 loop-again c = let s = c .before .before .before .before .loop .inv .3 in
+    let t = ap not (sym (c .before .meets .ensures)) in
     ⊎-elim
-    (λ v.
-    let o = v .1 in
-    let e = only-yes _ _ (ap not (sym (c .before .meets .ensures)) ∙ v .0 .taken) in
-    (omega arith, omega arith, rw o (omega arith), rw o (pass-next _ s e (holds-push _ (s .so-far) (omega arith)) (omega arith))))
-    (λ v.
-    let o = v .1 in
-    let e = only-no _ _ (ap not (sym (c .before .meets .ensures)) ∙ v .0 .left) in
-    (omega arith, omega arith, rw o (omega arith), rw o (pass-skip _ s e (omega arith))))
+    (λ v. (omega arith, omega arith, rw (v .1) (omega arith), rw (v .1) (pass-next _ s (only-yes _ _ (t ∙ v .0 .taken)) (holds-push _ (s .so-far) (omega arith)) (omega arith))))
+    (λ v. (omega arith, omega arith, rw (v .1) (omega arith), rw (v .1) (pass-skip _ s (only-no _ _ (t ∙ v .0 .left)) (omega arith))))
     (c .if1 .came)
 
 returns : tie.Need-returns Inv-loop μ-loop
