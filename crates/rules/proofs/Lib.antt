@@ -1,3 +1,4 @@
 pub mod Decides
 pub mod Check
 pub mod Rooms
+pub mod Counted
