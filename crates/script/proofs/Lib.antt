@@ -1,0 +1,3 @@
+-- What the grammar and the reading come to, and what the proofs of functions use.
+pub mod Parts
+pub mod Meaning
