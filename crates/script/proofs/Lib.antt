@@ -1,3 +1,5 @@
 -- What the grammar and the reading come to, and what the proofs of functions use.
 pub mod Parts
 pub mod Meaning
+pub mod Fronts
+pub mod Signs

@@ -22,7 +22,7 @@ module _ {B : Type 0} (C : B → Type 0) where
   behind-by b [] is not = not
   behind-by b (c ∷ s) is not = choose (eqb-reads c b) C (λ q. is s (ap (λ x. x ∷ s) q)) (λ n. not)
 
-digit-reads : (b : ℕ) → Reads ((byte "0" ≤ b) × (b ≤ byte "9")) (isDigit b)
+pub digit-reads : (b : ℕ) → Reads ((byte "0" ≤ b) × (b ≤ byte "9")) (isDigit b)
 digit-reads b = and-reads (leb-reads (byte "0") b) (leb-reads b (byte "9"))
 
 module _ (C : Found ℕ → Type 0) where

@@ -1,33 +1,27 @@
+-- `digit_at` meets its contract, by the cases of the byte.
 use borrow.Author.Needs.{needs}
+use mathlib.Core.Path.{_∙_}
+use Rattle.script.proofs.Fronts.{digit-out, digit-low, digit-high, digit-is}
 use Rattle.script.proofs.numbers.digit_at.Statement.{statement}
 use Rattle.script.proofs.numbers.digit_at.Tie as tie
-use Rattle.script.proofs.numbers.digit_at.Reads as reads
-use Rattle.script.proofs.numbers.digit_at.Lts as lts
-use Rattle.script.proofs.numbers.wide.Reads as wide-reads
 
--- src/numbers.rt:49:9
 returns : tie.Need-returns
-returns c = ?
+returns c = digit-out _ _ (c .if1 .taken)
 
--- src/numbers.rt:51:13
 shared-slice-read-b : tie.Need-shared-slice-read-b
 shared-slice-read-b c = search needs
 
--- src/numbers.rt:53:9
 returns-2 : tie.Need-returns-2
-returns-2 c = ?
+returns-2 c = digit-low _ _ (c .before .before .if1 .left) (c .if2 .taken)
 
--- src/numbers.rt:56:9
 returns-3 : tie.Need-returns-3
-returns-3 c = ?
+returns-3 c = digit-high _ _ (c .before .before .before .if1 .left) (c .if3 .taken)
 
--- src/numbers.rt:58:5
 wide-requires : tie.Need-wide-requires
 wide-requires c κs = search needs
 
--- src/numbers.rt:45:1
 returns-4 : tie.Need-returns-4
-returns-4 c = ?
+returns-4 c = c .wide .ensures ∙ digit-is _ _ (c .before .before .before .before .if1 .left) (c .before .before .if2 .left) (c .before .if3 .left)
 
 pub digit-at-spec : {M : Type 1} → statement M
 digit-at-spec =

@@ -1,35 +1,34 @@
+-- `signed_at` meets its contract: a first digit, and then what `digits` reads.
+use mathlib.Core.Path.{sym}
+use native.Mathlib.Omega.{arith}
 use borrow.Author.Needs.{needs}
+use Rattle.script.proofs.Fronts.{digit-inside, signed-some, signed-none}
+use Rattle.script.proofs.Signs.{back}
 use Rattle.script.proofs.numbers.signed_at.Statement.{statement}
 use Rattle.script.proofs.numbers.signed_at.Tie as tie
-use Rattle.script.proofs.numbers.signed_at.Reads as reads
-use Rattle.script.proofs.numbers.signed_at.Lts as lts
-use Rattle.script.proofs.numbers.digit_at.Reads as digit-at-reads
-use Rattle.script.proofs.numbers.digits.Reads as digits-reads
-use Rattle.script.proofs.numbers.signed.Reads as signed-reads
 
--- src/numbers.rt:102:9
 digit-at-requires : tie.Need-digit-at-requires
 digit-at-requires c κs = search needs
 
--- src/numbers.rt:104:9
 returns : tie.Need-returns
-returns c = ?
+returns c = let a = c .before .before .before .args in sym (signed-none (a .minus) (a .line .now) (a .at) (omega arith))
 
--- src/numbers.rt:106:26
 add-digits : tie.Need-add-digits
-add-digits c = ?
+add-digits c =
+    let a = c .before .before .before .args in
+    let i = digit-inside (a .line .now) (a .at) (omega arith) in omega arith
 
--- src/numbers.rt:106:9
 digits-requires : tie.Need-digits-requires
 digits-requires c κs = search needs
 
--- src/numbers.rt:107:18
 signed-requires : tie.Need-signed-requires
 signed-requires c κs = search needs
 
--- src/numbers.rt:99:1
 returns-2 : tie.Need-returns-2
-returns-2 c = ?
+returns-2 c =
+    let a = c .before .before .before .before .before .args in
+    rw (back (c .signed .result) (c .signed .ok), c .signed .ensures)
+    (sym (signed-some (a .minus) (a .line .now) (a .at) (c .before .before .before .digit-at .ensures) (c .before .before .if1 .left) (c .before .digits .ensures .0)))
 
 pub signed-at-spec : {M : Type 1} → statement M
 signed-at-spec =
