@@ -9,15 +9,12 @@ use native.Mathlib.Numerals.{add-one, sub-one}
 use native.Mathlib.Omega.{arith}
 use borrow.Author.Tests.{le-leb, lt-leb}
 use lib.Dec.{eqb, lit<}
-use lib.IntN.{ℤ}
 use lib.ListN.{length, getD, drop, drop-of-length-le}
 use lib.Seq.{drop-cons, drop-drop}
 use Rattle.lists.proofs.Tests.{Reads, pass, fail, stable, clash, ltb-reads}
 use Rattle.script.specs.Grammar.{byte}
-use Rattle.script.specs.declared.numbers.Number.{Number}
-use Rattle.script.specs.declared.numbers.Number.the-variants.{Read, Missing}
-use Rattle.script.specs.Reading.{Found, found, missing, behind, isDigit, digitsOf, wholeOf, withSign, signedOf, numberOf, fieldOf}
-use Rattle.script.specs.Indexes.{begins, digitOf, numberFound}
+use Rattle.script.specs.Reading.{found, missing, behind, isDigit, digitsOf, wholeOf, withSign, signedOf, numberOf, fieldOf}
+use Rattle.script.specs.Indexes.{begins, digitOf}
 use Rattle.script.proofs.Parts.{digit-reads}
 
 -- ---- the text at an index
@@ -26,7 +23,7 @@ module _ (l : List ℕ) (k : ℕ) where
   pub next : drop 1 (drop k l) ≡ drop (k + 1) l
   next = drop-drop 1 k l
 
-  at-byte : k < length l → drop k l ≡ getD l k 0 ∷ drop (k + 1) l
+  pub at-byte : k < length l → drop k l ≡ getD l k 0 ∷ drop (k + 1) l
   at-byte h = rw (add-one, drop-cons l k 0 h)
 
   pub begins-in : (b : ℕ) → k < length l → eqb (getD l k 0) b ≡ begins b (drop k l)
@@ -162,11 +159,7 @@ pub room-first : (v : ℕ) → v < 10 → Room 5 v
 unfolding Room
 room-first v h = room-low 5 9 v (omega arith) (lit< tt)
 
--- ---- an answer with an index
+-- ---- what an answer r tells, where it is x
 
-module _ {F : Found ℤ} (line : List ℕ) {r : Number} (e : numberFound line r ≡ F) where
-  pub read : {z : ℤ} {k : ℕ} → r ≡ Read z k → F ≡ found z (drop k line)
-  read q = sym e ∙ ap (numberFound line) q
-
-  pub not-read : r ≡ Missing → F ≡ missing
-  not-read q = sym e ∙ ap (numberFound line) q
+pub told : {R A : Type 0} (tells : R → A) {r x : R} {a : A} → tells r ≡ a → r ≡ x → a ≡ tells x
+told tells e q = sym e ∙ ap tells q

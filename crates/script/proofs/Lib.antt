@@ -2,4 +2,5 @@
 pub mod Parts
 pub mod Meaning
 pub mod Fronts
+pub mod Forms
 pub mod Signs

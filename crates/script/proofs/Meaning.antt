@@ -138,7 +138,7 @@ module _ (s : List ℕ) where
   pub meaning : (k : Command) → (commandOf s ≡ k) ↔ Says s k
   meaning k = (λ e. subst (Says s) e says, one-command says)
 
-too-long : (s : List ℕ) → 81 ≤ length s → commandOf s ≡ Unreadable
+pub too-long : (s : List ℕ) → 81 ≤ length s → commandOf s ≡ Unreadable
 unfolding commandOf
 too-long s h = choose (leb-reads (length s) 80) (λ k. k ≡ Unreadable) (λ le. absurd (omega arith)) (λ n. refl)
 

@@ -42,7 +42,7 @@ module _ (C : Found ℕ → Type 0) where
   whole-by (b ∷ s) is not =
       choose (digit-reads b) C
       (λ d. digits-by 5 (b - byte "0") s (λ ds rest g le e.
-          is (b ∷ ds) rest _ (record { digits = more (d .0) (d .1) g; least = omega arith; most = omega arith; value = ap (λ v. valueOf v ds) (omega arith) }) (ap (λ l. b ∷ l) e)))
+      is (b ∷ ds) rest _ (record { digits = more (d .0) (d .1) g; least = omega arith; most = omega arith; value = ap (λ v. valueOf v ds) (omega arith) }) (ap (λ l. b ∷ l) e)))
       (λ n. not)
 
 module _ (C : Found ℤ → Type 0) where

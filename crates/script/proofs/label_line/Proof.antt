@@ -1,36 +1,42 @@
+-- `label_line` meets its contract, by what stands behind the numbers.
+use mathlib.Core.Path.{_∙_}
 use borrow.Author.Needs.{needs}
+use Rattle.script.specs.declared.Command.the-variants.{Place}
+use Rattle.script.proofs.Forms.{label-none, label-bare, label-from, label-wrong, place-is}
 use Rattle.script.proofs.label_line.Statement.{statement}
 use Rattle.script.proofs.label_line.Tie as tie
-use Rattle.script.proofs.label_line.Reads as reads
-use Rattle.script.proofs.label_line.Lts as lts
 
--- src/lib.rt:97:9
 returns : tie.Need-returns
-returns c = ?
+returns c =
+    let a = c .before .args in
+    let f = c .before .fits in
+    place-is _ (f .kind) (f .orient) (f .x) (f .y) ∙ label-none (Place (a .kind) (a .orient) (a .x) (a .y)) (a .line .now) (a .at) (c .if1 .taken)
 
--- src/lib.rt:105:8
 sub-if2 : tie.Need-sub-if2
 sub-if2 c = search needs
 
--- src/lib.rt:106:9
 returns-2 : tie.Need-returns-2
-returns-2 c = ?
+returns-2 c =
+    let a = c .before .before .args in
+    label-bare (Place (a .kind) (a .orient) (a .x) (a .y)) (a .line .now) (a .at) (c .before .if1 .left) (c .if2 .taken)
 
--- src/lib.rt:108:8
 shared-slice-read-if3 : tie.Need-shared-slice-read-if3
 shared-slice-read-if3 c = search needs
 
--- src/lib.rt:114:20
 add-t13 : tie.Need-add-t13
 add-t13 c = search needs
 
--- src/lib.rt:92:1
 returns-3 : tie.Need-returns-3
-returns-3 c = ?
+returns-3 c =
+    let a = c .before .before .before .before .args in
+    let f = c .before .before .before .before .fits in
+    place-is _ (f .kind) (f .orient) (f .x) (f .y)
+    ∙ label-from (Place (a .kind) (a .orient) (a .x) (a .y)) (a .line .now) (a .at) (c .before .before .before .if1 .left) (c .before .before .if2 .left) (c .if3 .taken)
 
--- src/lib.rt:92:1
 returns-4 : tie.Need-returns-4
-returns-4 c = ?
+returns-4 c =
+    let a = c .before .before .before .before .args in
+    label-wrong (Place (a .kind) (a .orient) (a .x) (a .y)) (a .line .now) (a .at) (c .before .before .before .if1 .left) (c .before .before .if2 .left) (c .if3 .left)
 
 pub label-line-spec : {M : Type 1} → statement M
 label-line-spec =

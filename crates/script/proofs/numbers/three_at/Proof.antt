@@ -1,7 +1,8 @@
 -- `three_at` meets its contract: each number is what `threeOf` finds next.
 use borrow.Author.Needs.{needs}
 use Rattle.script.specs.Reading.{threeOf}
-use Rattle.script.proofs.Fronts.{read, not-read}
+use Rattle.script.specs.Indexes.{numberFound}
+use Rattle.script.proofs.Fronts.{told}
 use Rattle.script.proofs.Signs.{back}
 use Rattle.script.proofs.numbers.three_at.Statement.{statement}
 use Rattle.script.proofs.numbers.three_at.Tie as tie
@@ -17,7 +18,7 @@ enum-told c = search needs
 
 returns : tie.Need-returns
 unfolding threeOf
-returns c = rw (not-read _ (c .before .before .field-at .ensures) (c .enum-told .given .1))
+returns c = rw (told (numberFound _) (c .before .before .field-at .ensures) (c .enum-told .given .1))
 
 field-at-requires-2 : tie.Need-field-at-requires-2
 field-at-requires-2 c κs = search needs
@@ -32,7 +33,7 @@ returns-2 : tie.Need-returns-2
 unfolding threeOf
 returns-2 c =
     let d = c .before .before .before .before in
-    rw (read _ (d .before .before .field-at .ensures) (d .a .given .1), not-read _ (c .before .before .field-at2 .ensures) (c .enum-told2 .given .1))
+    rw (told (numberFound _) (d .before .before .field-at .ensures) (d .a .given .1), told (numberFound _) (c .before .before .field-at2 .ensures) (c .enum-told2 .given .1))
 
 field-at-requires-3 : tie.Need-field-at-requires-3
 field-at-requires-3 c κs = search needs
@@ -49,9 +50,9 @@ returns-3 c =
     let e = c .before .before .before .before in
     let d = e .before .before .before .before in
     rw (
-      read _ (d .before .before .field-at .ensures) (d .a .given .1),
-      read _ (e .before .before .field-at2 .ensures) (e .b .given .1),
-      not-read _ (c .before .before .field-at3 .ensures) (c .enum-told3 .given .1),
+      told (numberFound _) (d .before .before .field-at .ensures) (d .a .given .1),
+      told (numberFound _) (e .before .before .field-at2 .ensures) (e .b .given .1),
+      told (numberFound _) (c .before .before .field-at3 .ensures) (c .enum-told3 .given .1),
     )
 
 returns-4 : tie.Need-returns-4
@@ -64,9 +65,9 @@ returns-4 c =
       back (d .a .given .0 .0) (e .before .before .before .known-told .given .0 .1),
       back (e .b .given .0 .0) (f .before .before .before .known-told2 .given .0 .1),
       back (f .c .given .0 .0) (c .known-told3 .given .0 .1),
-      read _ (d .before .before .field-at .ensures) (d .a .given .1),
-      read _ (e .before .before .field-at2 .ensures) (e .b .given .1),
-      read _ (f .before .before .field-at3 .ensures) (f .c .given .1),
+      told (numberFound _) (d .before .before .field-at .ensures) (d .a .given .1),
+      told (numberFound _) (e .before .before .field-at2 .ensures) (e .b .given .1),
+      told (numberFound _) (f .before .before .field-at3 .ensures) (f .c .given .1),
     )
 
 pub three-at-spec : {M : Type 1} → statement M
