@@ -1,5 +1,5 @@
 -- `commandOf` gives what the grammar says, of every line: `meaning`. So a line says exactly one command, `one-command`; and of a line
--- of which only the first 81 bytes are held it gives what it gives of the whole line, `only-81`.
+-- of which only the first 81 bytes are held it gives what it gives of the whole line, `command-81`.
 use mathlib.Core.Path.{_≡_, refl, sym, ap, subst, _∙_}
 use mathlib.Core.Logic.{_↔_, ⊎-elim}
 use mathlib.Core.List.{List, [], _∷_, _++_, append-nil}
@@ -110,13 +110,11 @@ apart e = omega arith
 module _ (s : List ℕ) where
   -- no line of the grammar says `Unreadable`
   not-unreadable : {k : Command} → IsLine s k → k ≡ Unreadable → ⊥
-  not-unreadable (three letter p q w e) u = by letter u where
-    by : {l : Char} {f : ℤ → ℤ → ℤ → Command} {a b c : ℤ} → Letter l f → f a b c ≡ Unreadable → ⊥
-    by horizontal u = apart (cc)
-    by vertical u = apart (cc)
-    by delete u = apart (cc)
-    by turn u = apart (cc)
-    by mirror u = apart (cc)
+  not-unreadable (three horizontal p q w e) u = apart (cc)
+  not-unreadable (three vertical p q w e) u = apart (cc)
+  not-unreadable (three delete p q w e) u = apart (cc)
+  not-unreadable (three turn p q w e) u = apart (cc)
+  not-unreadable (three mirror p q w e) u = apart (cc)
   not-unreadable (place a b c d e) u = apart (cc)
   not-unreadable (label name a b c d e some at) u = apart (cc)
   not-unreadable (nets e) u = apart (cc)
@@ -142,8 +140,14 @@ pub too-long : (s : List ℕ) → 81 ≤ length s → commandOf s ≡ Unreadable
 unfolding commandOf
 too-long s h = choose (leb-reads (length s) 80) (λ k. k ≡ Unreadable) (λ le. absurd (omega arith)) (λ n. refl)
 
-pub only-81 : (s : List ℕ) → commandOf (take 81 s) ≡ commandOf s
-only-81 s = ⊎-elim (λ (le : length s ≤ 80). ap commandOf (take-all 81 s (omega arith))) (λ n. long (omega arith)) (decide (leb-reads (length s) 80))
+-- what does not look at an unreadable line does not tell a line from its first 81 bytes
+pub only-81 : {A : Type 0} (f : List ℕ → A) (u : A) → ((s : List ℕ) → commandOf s ≡ Unreadable → f s ≡ u) → (s : List ℕ) → f (take 81 s) ≡ f s
+only-81 f u same s = ⊎-elim (λ (le : length s ≤ 80). ap f (take-all 81 s (omega arith))) (λ n. long (omega arith)) (decide (leb-reads (length s) 80))
   where
-    long : 81 ≤ length s → commandOf (take 81 s) ≡ commandOf s
-    long h = let l : 81 ≤ length (take 81 s) = omega (arith, length-take-le 81 s h) in too-long (take 81 s) l ∙ sym (too-long s h)
+    long : 81 ≤ length s → f (take 81 s) ≡ f s
+    long h =
+        let l : 81 ≤ length (take 81 s) = omega (arith, length-take-le 81 s h) in
+        same (take 81 s) (too-long (take 81 s) l) ∙ sym (same s (too-long s h))
+
+pub command-81 : (s : List ℕ) → commandOf (take 81 s) ≡ commandOf s
+command-81 = only-81 commandOf Unreadable (λ s e. e)

@@ -6,7 +6,8 @@ use native.Mathlib.Omega.{arith}
 use lib.ListN.{drop}
 use borrow.Author.Needs.{needs}
 use Rattle.script.specs.Reading.{digitsOf}
-use Rattle.script.proofs.Fronts.{next, digit-inside, digits-more, digits-end, digits-full, Room, room-first, room-more, room-below}
+use Rattle.script.proofs.Fronts.{next, digit-inside, digits-more, digits-end, digits-full}
+use Rattle.script.proofs.Room.{Room, room-first, room-more, room-below}
 use Rattle.script.proofs.numbers.digits.Statement.{statement}
 use Rattle.script.proofs.numbers.digits.Tie as tie
 
