@@ -1,0 +1,4 @@
+-- What the lines of an input are, what runs over them come to, and what the proofs of functions use.
+pub mod Cutting
+pub mod Holding
+pub mod Runs
