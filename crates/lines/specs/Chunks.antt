@@ -1,4 +1,5 @@
 -- An input that comes in chunks, and the line that has begun, of which at most 81 bytes are held.
+use mathlib.Core.Path.{_≡_}
 use mathlib.Core.Bool.{cond}
 use mathlib.Core.List.{List, [], _∷_, _++_}
 use Prim.Native.Nat.{ℕ, _<_, _≤_}
@@ -30,3 +31,9 @@ fed (More count) held chunk = more (take count held)
 abbrev pub Within : ℕ → ℕ → Cut → Type 0
 Within at n (Line count next) = (count ≤ 81) × (at < next) × (next ≤ n)
 Within at n (More count) = count ≤ 81
+
+-- the answer r of `next_line` at `at` of a chunk, behind the first `count` bytes held, which leaves held′
+pub record Next (chunk : List ℕ) (at : ℕ) (held : List ℕ) (count : ℕ) (r : Cut) (held′ : List ℕ) : Type 0 where
+  pub told : fed r held′ chunk ≡ feed (take count held) (drop at chunk)
+  pub within : Within at (length chunk) r
+  pub long : length held′ ≡ length held

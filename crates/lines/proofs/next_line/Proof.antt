@@ -31,7 +31,11 @@ same-length c = c .before .before .before .loop .inv .3
 returns : tie.Need-returns Inv-loop μ-loop
 returns c =
     let l = c .before .before .before .loop in
-    (sym (feed-newline _ _ (l .i) (c .before .before .loop-test .taken) (c .if1 .taken)) ∙ l .inv .0, (l .inv .2, omega arith, omega arith))
+    record {
+      told = sym (feed-newline _ _ (l .i) (c .before .before .loop-test .taken) (c .if1 .taken)) ∙ l .inv .0;
+      within = (l .inv .2, omega arith, omega arith);
+      long = l .inv .3;
+    }
 
 push-requires : tie.Need-push-requires Inv-loop μ-loop
 push-requires c κs = omega arith
@@ -57,7 +61,7 @@ same-length-2 c = c .before .loop .inv .3
 returns-2 : tie.Need-returns-2 Inv-loop μ-loop
 returns-2 c =
     let l = c .before .loop in
-    (sym (feed-end _ _ (l .i) (c .loop-test .left)) ∙ l .inv .0, l .inv .2)
+    record { told = sym (feed-end _ _ (l .i) (c .loop-test .left)) ∙ l .inv .0; within = l .inv .2; long = l .inv .3 }
 
 pub next-line-spec : {M : Type 1} → statement M
 next-line-spec =
