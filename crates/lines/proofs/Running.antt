@@ -1,7 +1,7 @@
 -- For a loop that takes a state through the lines that end in a chunk, by `next_line` and any step: what is left to run is always the
 -- whole run. `start` where the loop begins, `on-line` and `on-more` by the answer of `next_line`, `at-end` where the chunk is used up.
-use mathlib.Core.Path.{_≡_, refl, sym, ap, _∙_}
-use mathlib.Core.List.{List, []}
+use mathlib.Core.Path.{_≡_, refl, sym, _∙_}
+use mathlib.Core.List.{List}
 use Prim.Native.Nat.{ℕ, _-_, _<_, _≤_}
 use native.Mathlib.Omega.{arith}
 use lib.ListN.{length, take, drop}

@@ -1,5 +1,5 @@
 -- The forms of a line, by what the functions look at: the letter, the line's end, the label.
-use mathlib.Core.Path.{_≡_, refl, sym, ap, _∙_}
+use mathlib.Core.Path.{_≡_, refl, ap}
 use mathlib.Core.List.{List, [], _∷_}
 use Prim.Native.Nat.{ℕ, _+_, _-_, _<_, _≤_}
 use Prim.Native.Char.{Char}
@@ -13,7 +13,7 @@ use mir.Facts.{toZ-ofZ}
 use Rattle.script.specs.declared.Command.{Command}
 use Rattle.script.specs.declared.Command.the-variants.{Place, Nets, Unreadable}
 use Rattle.script.specs.Grammar.{byte, Letter, horizontal, vertical, delete, turn, mirror}
-use Rattle.script.specs.Reading.{found, threeOf, ending, lettered, threeLine, labelled, placeLine, lineOf, commandOf}
+use Rattle.script.specs.Reading.{ending, lettered, threeLine, labelled, placeLine, lineOf, commandOf}
 use Rattle.script.proofs.Fronts.{at-byte}
 
 -- ---- the letter

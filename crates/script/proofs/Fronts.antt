@@ -13,7 +13,7 @@ use lib.ListN.{length, getD, drop, drop-of-length-le}
 use lib.Seq.{drop-cons, drop-drop}
 use Rattle.lists.proofs.Tests.{Reads, pass, fail, stable, clash, ltb-reads}
 use Rattle.script.specs.Grammar.{byte}
-use Rattle.script.specs.Reading.{found, missing, behind, isDigit, digitsOf, wholeOf, withSign, signedOf, numberOf, fieldOf}
+use Rattle.script.specs.Reading.{found, missing, behind, digitsOf, wholeOf, withSign, signedOf, numberOf, fieldOf}
 use Rattle.script.specs.Indexes.{begins, digitOf}
 use Rattle.script.proofs.Parts.{digit-reads}
 

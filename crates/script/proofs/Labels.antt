@@ -7,7 +7,7 @@ use lib.ListN.{length}
 use lib.IntN.{ℤ}
 use Rattle.script.specs.declared.Command.{Command}
 use Rattle.script.specs.declared.Command.the-variants.{Horizontal, Vertical, Place, Delete, Turn, Mirror, Nets, Unreadable}
-use Rattle.script.specs.Grammar.{horizontal, vertical, delete, turn, mirror, IsLine, three, place, label, nets, Says, readable, unreadable}
+use Rattle.script.specs.Grammar.{horizontal, vertical, delete, turn, mirror, IsLine, three, place, nets, Says, readable, unreadable}
 use Rattle.script.specs.Reading.{commandOf}
 use Rattle.script.proofs.Meaning.{meaning}
 
@@ -28,8 +28,7 @@ module _ {s : List ℕ} where
   line-label (three delete p q w e) = omega arith
   line-label (three turn p q w e) = omega arith
   line-label (three mirror p q w e) = omega arith
-  line-label (place a b c d e) = omega arith
-  line-label (label name a b c d e some at) = omega arith
+  line-label (place a b c d l e at) = omega arith
   line-label (nets e) = omega arith
 
   said-label : {k : Command} → Says s k → labelAt k ≤ length s

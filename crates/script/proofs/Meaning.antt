@@ -3,19 +3,18 @@
 use mathlib.Core.Path.{_≡_, refl, sym, ap, subst, _∙_}
 use mathlib.Core.Logic.{_↔_, ⊎-elim}
 use mathlib.Core.List.{List, [], _∷_, _++_, append-nil}
-use Prim.Native.Nat.{ℕ, zero, suc, _+_, _-_, _≤_}
+use Prim.Native.Nat.{ℕ, _+_, _-_, _≤_}
 use native.Mathlib.Omega.{arith}
 use Prim.Native.Char.{Char}
 use lib.ListN.{length, take, length-append}
 use lib.Seq.{take-all, length-take-le}
-use lib.Dec.{eqb}
-use lib.IntN.{ℤ, pos, negℤ}
+use lib.IntN.{ℤ}
 use Rattle.lists.proofs.Tests.{choose, decide, leb-reads, eqb-reads}
 use Rattle.script.specs.declared.Command.{Command}
-use Rattle.script.specs.declared.Command.the-variants.{Horizontal, Vertical, Place, Delete, Turn, Mirror, Nets, Unreadable}
-use Rattle.script.specs.Grammar.{byte, bytes, IsNumber, _␣_, Letter, horizontal, vertical, delete, turn, mirror, IsLine, three, place, label, nets, Says, readable, unreadable}
-use Rattle.script.specs.Reading.{found, missing, then, fieldOf, threeOf, ending, lettered, threeLine, labelled, placeLine, lineOf, commandOf}
-use Rattle.script.proofs.Parts.{Stops, end, space, field-by, three-by, IsThree, field-is, three-is}
+use Rattle.script.specs.declared.Command.the-variants.{Place, Unreadable}
+use Rattle.script.specs.Grammar.{byte, bytes, IsNumber, _␣_, Letter, horizontal, vertical, delete, turn, mirror, Label, none, some, IsLine, three, place, nets, Says, readable, unreadable}
+use Rattle.script.specs.Reading.{found, then, fieldOf, threeOf, ending, lettered, threeLine, labelled, placeLine, lineOf, commandOf}
+use Rattle.script.proofs.Parts.{Stops, end, space, field-by, three-by, field-is, three-is}
 
 -- ---- what is read is a line of the grammar
 
@@ -49,11 +48,11 @@ module _ {s : List ℕ} where
   module _ {KIND ORIENT X Y : List ℕ} {kind orient x y : ℤ} (a : IsNumber KIND kind) (b : IsNumber ORIENT orient) (c : IsNumber X x) (d : IsNumber Y y) where
     label-line : (rest : List ℕ) → s ≡ bytes "p" ␣ KIND ␣ ORIENT ␣ X ␣ Y ++ rest → Right s (labelled (length s) (Place kind orient x y) rest)
     unfolding labelled
-    label-line [] e = line (place a b c d (rw (e, append-nil)))
+    label-line [] e = line (place {at = length s} a b c d none e (omega arith))
     label-line (t ∷ []) e = nothing
     label-line (t ∷ u ∷ rest) e =
         choose (eqb-reads t (byte " ")) (Right s)
-        (λ q. line (label (u ∷ rest) a b c d (rw (e, q)) (omega arith) (omega (arith, simp length-append at (ap length e)))))
+        (λ q. line (place {at = length s - length (u ∷ rest)} a b c d (some {b = u} {bs = rest}) (rw (e, q)) (omega (arith, simp length-append at (ap length e)))))
         (λ n. nothing)
 
   place-line : (t : List ℕ) → s ≡ byte "p" ∷ t → Right s (placeLine (length s) t)
@@ -84,22 +83,20 @@ three-line-is {f = f} {A} {B} {C} {a} {b} {c} letter p q w = by letter (ap (λ C
   by turn e = rw e
   by mirror e = rw e
 
-module _ {s KIND ORIENT X Y rest : List ℕ} {kind orient x y : ℤ} where
-  place-line-is : IsNumber KIND kind → IsNumber ORIENT orient → IsNumber X x → IsNumber Y y → Stops rest
-      → s ≡ bytes "p" ␣ KIND ␣ ORIENT ␣ X ␣ Y ++ rest → lineOf s ≡ labelled (length s) (Place kind orient x y) rest
-  unfolding lineOf placeLine
-  place-line-is a b c d stops e = rw (e, three-is a b c (space {s = Y ++ rest}), field-is stops d)
+label-stops : {rest name : List ℕ} → Label rest name → Stops rest
+label-stops none = end
+label-stops some = space
 
-label-is : (n : ℕ) (f : ℕ → Command) {at : ℕ} (name : List ℕ) → 1 ≤ length name → at + length name ≡ n → labelled n f (byte " " ∷ name) ≡ f at
+label-is : (n : ℕ) (f : ℕ → Command) {rest name : List ℕ} {at : ℕ} → Label rest name → at + length name ≡ n → labelled n f rest ≡ f at
 unfolding labelled
-label-is n f [] some e = absurd (omega arith)
-label-is n f (u ∷ name) some e = ap f (omega arith)
+label-is n f none e = ap f (omega arith)
+label-is n f some e = ap f (omega arith)
 
 line-is : {s : List ℕ} {k : Command} → IsLine s k → lineOf s ≡ k
-unfolding lineOf labelled
+unfolding lineOf placeLine
 line-is (three letter p q w e) = rw e (three-line-is letter p q w)
-line-is {s} (place {Y = Y} a b c d e) = place-line-is a b c d end (e ∙ rw (append-nil Y))
-line-is {s} (label name a b c d e some at) = place-line-is a b c d space e ∙ label-is (length s) _ name some at
+line-is {s} (place {Y = Y} {rest = rest} a b c d l e at) =
+    rw (e, three-is a b c (space {s = Y ++ rest}), field-is (label-stops l) d) (label-is _ (Place _ _ _ _) l (at ∙ ap length e))
 line-is (nets e) = rw e
 
 -- ---- the two together
@@ -115,8 +112,7 @@ module _ (s : List ℕ) where
   not-unreadable (three delete p q w e) u = apart (cc)
   not-unreadable (three turn p q w e) u = apart (cc)
   not-unreadable (three mirror p q w e) u = apart (cc)
-  not-unreadable (place a b c d e) u = apart (cc)
-  not-unreadable (label name a b c d e some at) u = apart (cc)
+  not-unreadable (place a b c d l e at) u = apart (cc)
   not-unreadable (nets e) u = apart (cc)
 
   short : length s ≤ 80 → {k : Command} → lineOf s ≡ k → Right s k → Says s k

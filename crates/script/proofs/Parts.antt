@@ -1,15 +1,14 @@
 -- Each part of a line, read. `PART-by`: what the reader finds is such a part, so what holds of every part found, and of none, holds
 -- of what the reader gives. `PART-is`: the reader finds every such part, up to the line's end or a space.
-use mathlib.Core.Path.{_≡_, refl, sym, ap, subst, _∙_}
-use mathlib.Core.Bool.{true, false, cond}
+use mathlib.Core.Path.{_≡_, refl, ap, _∙_}
+use mathlib.Core.Bool.{true, false}
 use mathlib.Core.List.{List, [], _∷_, _++_}
 use Prim.Native.Nat.{ℕ, zero, suc, _+_, _-_, _*_, _≤_}
 use native.Mathlib.Omega.{arith}
 use lib.ListN.{length}
-use lib.Dec.{eqb}
-use lib.IntN.{ℤ, pos, negℤ}
-use Rattle.lists.proofs.Tests.{Reads, choose, passes, leb-reads, eqb-reads, and-reads}
-use Rattle.script.specs.Grammar.{byte, bytes, Digits, none, more, valueOf, IsWhole, IsNumber, plain, minus, _␣_}
+use lib.IntN.{ℤ, pos}
+use Rattle.lists.proofs.Tests.{Reads, choose, leb-reads, eqb-reads, and-reads}
+use Rattle.script.specs.Grammar.{byte, Digits, none, more, valueOf, IsWhole, IsNumber, plain, minus, _␣_}
 use Rattle.script.specs.Reading.{Found, found, missing, then, behind, isDigit, digitsOf, wholeOf, withSign, signedOf, numberOf, fieldOf, threeOf}
 
 -- what ends a number

@@ -51,15 +51,21 @@ pub data Letter : Char → (ℤ → ℤ → ℤ → Command) → Type 0 where
   turn : Letter "r" Turn
   mirror : Letter "m" Mirror
 
--- the readable lines, but for their length
+-- what stands behind the numbers of a `p` line, and its label: "optionally one space and a label (the rest of the line, at least one
+-- byte ..)"
+pub data Label : List ℕ → List ℕ → Type 0 where
+  none : Label [] []
+  some : {b : ℕ} {bs : List ℕ} → Label (byte " " ∷ b ∷ bs) (b ∷ bs)
+
+-- the readable lines, but for their length; the label of a `p` line begins at the index `at`
 pub data IsLine (s : List ℕ) : Command → Type 0 where
-  three : {l : Char} {f : ℤ → ℤ → ℤ → Command} {A B C : List ℕ} {a b c : ℤ} → Letter l f → IsNumber A a → IsNumber B b → IsNumber C c
-      → s ≡ (byte l ∷ []) ␣ A ␣ B ␣ C → IsLine s (f a b c)
-  -- `p KIND ORIENT X Y` "with optionally one space and a label (the rest of the line, at least one byte ..)"; the label begins at `at`
-  place : {KIND ORIENT X Y : List ℕ} {kind orient x y : ℤ} → IsNumber KIND kind → IsNumber ORIENT orient → IsNumber X x → IsNumber Y y
-      → s ≡ bytes "p" ␣ KIND ␣ ORIENT ␣ X ␣ Y → IsLine s (Place kind orient x y (length s))
-  label : {KIND ORIENT X Y : List ℕ} {kind orient x y : ℤ} {at : ℕ} (name : List ℕ) → IsNumber KIND kind → IsNumber ORIENT orient → IsNumber X x → IsNumber Y y
-      → s ≡ bytes "p" ␣ KIND ␣ ORIENT ␣ X ␣ Y ␣ name → 1 ≤ length name → at + length name ≡ length s → IsLine s (Place kind orient x y at)
+  three : {l : Char} {f : ℤ → ℤ → ℤ → Command} {A B C : List ℕ} {a b c : ℤ}
+      → Letter l f → IsNumber A a → IsNumber B b → IsNumber C c → s ≡ (byte l ∷ []) ␣ A ␣ B ␣ C
+      → IsLine s (f a b c)
+  place : {KIND ORIENT X Y rest label : List ℕ} {kind orient x y : ℤ} {at : ℕ}
+      → IsNumber KIND kind → IsNumber ORIENT orient → IsNumber X x → IsNumber Y y → Label rest label
+      → s ≡ bytes "p" ␣ KIND ␣ ORIENT ␣ X ␣ Y ++ rest → at + length label ≡ length s
+      → IsLine s (Place kind orient x y at)
   nets : s ≡ bytes "n" → IsLine s Nets
 
 -- "a line is at most 80 bytes without its newline, and a longer one is one unreadable line"; so is one of no other form

@@ -131,7 +131,8 @@ fn place_line(line: &[u8]) -> Command
     label_line(line, next, kind, orient, x, y)
 }
 
-// What a line says.
+// What a line says. Two wrong answers that this rules out: reading a line of 81 bytes, and taking `n` with
+// bytes behind it (must-fail/ has more).
 pub fn read_line(line: &[u8]) -> Command
     ensures { λ r. ⌜ r ≡ commandOf (now (line .entry)) ⌝ }
 {

@@ -1,6 +1,5 @@
 // The numbers of a script line, each read from an index of the line on.
 ghost use mathlib.Core.Path.{_≡_};
-ghost use mathlib.Core.Bool.{Bool};
 ghost use Prim.Native.Nat.{_<_};
 ghost use lib.ListN.{drop};
 ghost use Rattle.script.specs.Reading.{found, digitsOf, withSign, signedOf, numberOf, fieldOf, threeOf};
