@@ -1,10 +1,11 @@
 -- The contract of `next_line` has one answer: `once`. Of the bytes held it tells those that the answer counts, and no others are looked at.
-use mathlib.Core.Path.{_≡_, sym, ap, ap₂, _∙_}
+use mathlib.Core.Path.{_≡_, refl, sym, ap, ap₂, _∙_}
 use mathlib.Core.List.{List}
 use Prim.Native.Nat.{ℕ, _≤_}
 use native.Mathlib.Omega.{arith}
 use lib.ListN.{length, take, drop, length-drop}
 use lib.Seq.{length-take-le}
+use Rattle.lists.proofs.Tests.{clash}
 use Rattle.lines.specs.declared.Cut.{Cut}
 use Rattle.lines.specs.declared.Cut.the-variants.{Line, More}
 use Rattle.lines.specs.Chunks.{Fed, line, more, fed, Within, Next}
@@ -15,17 +16,14 @@ same-count {k} {k′} l l′ h h′ e = omega (arith, length-take-le k l h, leng
 same-rest : {i i′ : ℕ} (l : List ℕ) → i ≤ length l → i′ ≤ length l → drop i l ≡ drop i′ l → i ≡ i′
 same-rest {i} {i′} l h h′ e = omega (arith, length-drop i l, length-drop i′ l, ap length e)
 
-apart : _≡_ {A = ℕ} 0 1 → ⊥
-apart e = omega arith
-
 module _ (chunk held held′ : List ℕ) (at : ℕ) (room : 81 ≤ length held) (room′ : 81 ≤ length held′) where
   same-answer : (r r′ : Cut) → fed r held chunk ≡ fed r′ held′ chunk → Within at (length chunk) r → Within at (length chunk) r′ → r ≡ r′
   same-answer (Line k i) (Line k′ i′) e w w′ =
       let bytes : take k held ≡ take k′ held′ = cc in
       let rest : drop i chunk ≡ drop i′ chunk = cc in
       ap₂ Line (same-count held held′ (omega (arith, w .0)) (omega (arith, w′ .0)) bytes) (same-rest chunk (w .2) (w′ .2) rest)
-  same-answer (Line k i) (More k′) e w w′ = absurd (apart (cc))
-  same-answer (More k) (Line k′ i′) e w w′ = absurd (apart (cc))
+  same-answer (Line k i) (More k′) e w w′ = absurd (clash refl (cc))
+  same-answer (More k) (Line k′ i′) e w w′ = absurd (clash refl (cc))
   same-answer (More k) (More k′) e w w′ =
       let bytes : take k held ≡ take k′ held′ = cc in
       ap More (same-count held held′ (omega arith) (omega arith) bytes)

@@ -9,7 +9,7 @@ use Prim.Native.Char.{Char}
 use lib.ListN.{length, take, length-append}
 use lib.Seq.{take-all, length-take-le}
 use lib.IntN.{ℤ}
-use Rattle.lists.proofs.Tests.{choose, decide, leb-reads, eqb-reads}
+use Rattle.lists.proofs.Tests.{choose, decide, clash, leb-reads, eqb-reads}
 use Rattle.script.specs.declared.Command.{Command}
 use Rattle.script.specs.declared.Command.the-variants.{Place, Unreadable}
 use Rattle.script.specs.Grammar.{byte, bytes, IsNumber, _␣_, Letter, horizontal, vertical, delete, turn, mirror, Label, none, some, IsLine, three, place, nets, Says, readable, unreadable}
@@ -101,19 +101,16 @@ line-is (nets e) = rw e
 
 -- ---- the two together
 
-apart : _≡_ {A = ℕ} 0 1 → ⊥
-apart e = omega arith
-
 module _ (s : List ℕ) where
   -- no line of the grammar says `Unreadable`
   not-unreadable : {k : Command} → IsLine s k → k ≡ Unreadable → ⊥
-  not-unreadable (three horizontal p q w e) u = apart (cc)
-  not-unreadable (three vertical p q w e) u = apart (cc)
-  not-unreadable (three delete p q w e) u = apart (cc)
-  not-unreadable (three turn p q w e) u = apart (cc)
-  not-unreadable (three mirror p q w e) u = apart (cc)
-  not-unreadable (place a b c d l e at) u = apart (cc)
-  not-unreadable (nets e) u = apart (cc)
+  not-unreadable (three horizontal p q w e) u = clash refl (cc)
+  not-unreadable (three vertical p q w e) u = clash refl (cc)
+  not-unreadable (three delete p q w e) u = clash refl (cc)
+  not-unreadable (three turn p q w e) u = clash refl (cc)
+  not-unreadable (three mirror p q w e) u = clash refl (cc)
+  not-unreadable (place a b c d l e at) u = clash refl (cc)
+  not-unreadable (nets e) u = clash refl (cc)
 
   short : length s ≤ 80 → {k : Command} → lineOf s ≡ k → Right s k → Says s k
   short le e (line g) = readable le g
