@@ -8,7 +8,7 @@ use lib.Seq.{length-take-le}
 use Rattle.lists.proofs.Tests.{clash}
 use Rattle.lines.specs.declared.Cut.{Cut}
 use Rattle.lines.specs.declared.Cut.the-variants.{Line, More}
-use Rattle.lines.specs.Chunks.{Fed, line, more, fed, Within, Next}
+use Rattle.lines.specs.Chunks.{fed, Within, Next}
 
 same-count : {k k′ : ℕ} (l l′ : List ℕ) → k ≤ length l → k′ ≤ length l′ → take k l ≡ take k′ l′ → k ≡ k′
 same-count {k} {k′} l l′ h h′ e = omega (arith, length-take-le k l h, length-take-le k′ l′ h′, ap length e)
