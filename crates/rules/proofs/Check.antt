@@ -17,7 +17,7 @@ use Rattle.sheet.specs.Rules.{Rule5, Lawful}
 use Rattle.sheet.proofs.Parts.{touches-reads}
 use Rattle.rules.specs.declared.Checked.{Checked}
 use Rattle.rules.specs.declared.Touching.{Touching}
-use Rattle.rules.specs.Check.{touchingOne, touchingFrom, broken, unless, unlessTouching, check1, check2, check3, check4, check6, check7, checkOf}
+use Rattle.rules.specs.Check.{touchingOne, touchingFrom, broken, unless, unlessTouching, check1, check2, check3, check4, check6, check7, fromRule5, checkOf}
 use Rattle.rules.specs.Check as C
 use Rattle.rules.specs.Verdict.{First, sound, fails, holds, seven, FirstAt, now, next, FirstPair, here, later, Touch, Right}
 use Rattle.rules.proofs.Decides.{reads1, reads2, reads3, reads4, reads6, reads7}
@@ -95,7 +95,7 @@ told-lawful = record { rule = sound; pair = λ e. absurd (omega arith); other = 
 module _ (d : Drawing) (z : Sized d) where
   -- what the check tells is right
   pub check-right : Right d (checkOf d)
-  unfolding checkOf
+  unfolding checkOf fromRule5
   check-right =
       let s = listsOf d in
       let ps = padsOf (s .parts) in

@@ -98,7 +98,7 @@ zeros-is c n z =
 is-zeros : (c : Component) → c ≡ zeroComponent → Zeros c
 is-zeros c e = subst Zeros (sym e) (record { kind = refl; rot-mirror = refl; x = refl; y = refl; label = λ b m. zeros-only 0 16 m })
 
-fits-reads : (w : Wire) → Reads (Fits w) (wireFits w)
+pub fits-reads : (w : Wire) → Reads (Fits w) (wireFits w)
 unfolding wireFits
 fits-reads w = reads-as (λ t. record { line = t .0; long = t .1 .0; end = t .1 .1 }, λ f. (f .line, (f .long, f .end)))
     (and-reads (leb-reads (w .line) 12000) (and-reads (ltb-reads (w .start) (w .end)) (leb-reads (w .end) 12000)))

@@ -124,19 +124,25 @@ unless b k other = cond b other (broken k)
 abbrev pub unlessTouching : Touching → Checked → Checked
 unlessTouching t other = cond (t .found) (record { rule = 5; first = t .first; second = t .second }) other
 
+-- the first broken rule from rule 5 on
+unfoldable pub fromRule5 : Drawing → Checked
+fromRule5 d =
+    let s = listsOf d in
+    let js = jointRows (d .joints) in
+    unlessTouching (touchingFrom 0 (s .parts))
+    (unless (check6 js (marksOf s)) 6
+    (unless (check7 s js) 7
+    (broken 0)))
+
 unfoldable pub checkOf : Drawing → Checked
 checkOf d =
     let s = listsOf d in
     let ps = padsOf (s .parts) in
-    let js = jointRows (d .joints) in
     unless (check1 d) 1
     (unless (check2 (s .wires)) 2
     (unless (check3 (s .wires) ps) 3
     (unless (check4 (s .wires) ps) 4
-    (unlessTouching (touchingFrom 0 (s .parts))
-    (unless (check6 js (marksOf s)) 6
-    (unless (check7 s js) 7
-    (broken 0)))))))
+    (fromRule5 d))))
 
 -- a drawing is lawful where no rule is broken
 abbrev pub lawful : Drawing → Bool
