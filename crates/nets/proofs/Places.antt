@@ -1,0 +1,32 @@
+-- What stands at a place of a list.
+use mathlib.Core.Path.{_≡_, refl, ap}
+use mathlib.Core.List.{List, [], _∷_, map, List·Memᴰ·head as ∈-head, List·Memᴰ·tail as ∈-tail}
+use Prim.Native.Nat.{ℕ, zero, suc, _<_, suc-le-suc}
+use native.Mathlib.Nat.{le-of-suc-le-suc}
+use native.Mathlib.Omega.{arith}
+use lib.ListN.{length, getD}
+use Rattle.lists.specs.Lists.{_∈_}
+use Rattle.nets.specs.Nets.{At, first, later}
+
+module _ {A : Type 0} where
+  pub at-low : {xs : List A} {i : ℕ} {x : A} → At xs i x → i < length xs
+  at-low first = omega arith
+  at-low (later a) = suc-le-suc (at-low a)
+
+  -- something stands at each place, and one thing only
+  pub at-some : (xs : List A) (i : ℕ) → i < length xs → (x : A) × At xs i x
+  at-some [] i h = absurd (omega arith)
+  at-some (x ∷ xs) zero h = (x, first)
+  at-some (x ∷ xs) (suc i) h = let r = at-some xs i (le-of-suc-le-suc h) in (r .0, later (r .1))
+
+  pub at-one : {xs : List A} {i : ℕ} {x y : A} → At xs i x → At xs i y → x ≡ y
+  at-one first first = refl
+  at-one (later a) (later b) = at-one a b
+
+  pub at-in : {xs : List A} {i : ℕ} {x : A} → At xs i x → x ∈ xs
+  at-in first = ∈-head refl
+  at-in (later a) = ∈-tail (at-in a)
+
+  pub at-map : {B : Type 0} (f : A → B) {xs : List A} {i : ℕ} {x : A} → At xs i x → At (map f xs) i (f x)
+  at-map f first = first
+  at-map f (later a) = later (at-map f a)
