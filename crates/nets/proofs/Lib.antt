@@ -10,3 +10,4 @@ mod Tabulate
 mod Roots
 mod Walks
 mod Rooted
+mod Ranks

@@ -49,14 +49,14 @@ rank-told x y (z ∷ met) h e = ⊎-elim
     (decide (eqb-reads x z))
 
 -- by cases: a net that is met was met before, or is new
-by-meet : (x : ℕ) (met : List ℕ) (C : List ℕ → Type 0) → (rank x met ≡ 0 → C (x ∷ met)) → ((rank x met ≡ 0 → ⊥) → C met) → C (meet x met)
+pub by-meet : (x : ℕ) (met : List ℕ) (C : List ℕ → Type 0) → (rank x met ≡ 0 → C (x ∷ met)) → ((rank x met ≡ 0 → ⊥) → C met) → C (meet x met)
 by-meet x met C f g = ⊎-elim (λ e. rw (meet-new x met e) (f e)) (λ n. rw (meet-old x met n) (g n)) (decide (eqb-reads (rank x met) 0))
 
 -- a net that was met keeps its rank
 rank-stays : (x y : ℕ) (met : List ℕ) → 0 < rank x met → rank x (meet y met) ≡ rank x met
 rank-stays x y met h = by-meet y met (λ s. rank x s ≡ rank x met) (λ e. rank-on x y met (λ q. omega (arith, e, ap (λ z. rank z met) q))) (λ n. refl)
 
-rank-met : (x : ℕ) (met : List ℕ) → 0 < rank x (meet x met)
+pub rank-met : (x : ℕ) (met : List ℕ) → 0 < rank x (meet x met)
 rank-met x met = by-meet x met (λ s. 0 < rank x s) (λ e. omega (arith, rank-here x x met refl)) (λ n. omega (arith, n))
 
 -- all the nets met

@@ -3,17 +3,18 @@ use mathlib.Core.Path.{_≡_, refl, sym, ap, _∙_}
 use mathlib.Core.Bool.{cond}
 use mathlib.Core.Logic.{⊎-elim}
 use mathlib.Core.List.{List, [], _∷_, _++_}
-use Prim.Native.Nat.{ℕ, _<_, min, max}
+use Prim.Native.Nat.{ℕ, _≤_, _<_, min, max}
 use native.Mathlib.Omega.{arith}
 use lib.Dec.{eqb}
-use lib.ListN.{length, getD, List·getD-eq-default}
+use lib.ListN.{length, getD}
 use Rattle.lists.specs.Lists.{_∈_}
-use Rattle.lists.proofs.Tests.{decide, ltb-reads}
+use Rattle.lists.proofs.Tests.{decide, choose, eqb-reads}
+use Rattle.nets.specs.Nets.{Net}
 use Rattle.nets.specs.Numbers.{merged, netFrom, startOf, netOf}
 use Rattle.nets.specs.Tables.{Falling, rootOf, joinOf, tabulate, Rooted}
 use Rattle.nets.proofs.Chains.{netWith}
-use Rattle.nets.proofs.Tabulate.{tabulate-at, length-tabulate}
-use Rattle.nets.proofs.Told.{start-reads, start-power, start-other}
+use Rattle.nets.proofs.Tabulate.{tabulate-at, tabulate-falls, length-tabulate}
+use Rattle.nets.proofs.Told.{start-reads, start-power, start-other, start-low}
 use Rattle.nets.proofs.Roots.{root-still, root-step, root-low, join-falls, root-joined, length-join}
 
 -- ---- before any wire
@@ -25,15 +26,7 @@ module _ (powers : List ℕ) where
   start-at n h = tabulate-at (startOf powers) 1409 n h
 
   start-falls : Falling table
-  start-falls = record {
-    low = λ n. ⊎-elim
-        (λ (h : n < 1409). ⊎-elim
-        (λ (i : n ∈ powers). omega (arith, start-at n h, start-power powers n i))
-        (λ (f : n ∈ powers → ⊥). omega (arith, start-at n h, start-other powers n f))
-        (decide (start-reads powers n)))
-        (λ (h : n < 1409 → ⊥). omega (arith, List·getD-eq-default table 0 {n = n} (omega (arith, h, length-tabulate (startOf powers) 1409))))
-        (decide (ltb-reads n 1409));
-  }
+  start-falls = tabulate-falls (startOf powers) 1409 (start-low powers)
 
   start-roots : (n : ℕ) → n < 1409 → rootOf table n ≡ startOf powers n
   start-roots n h = ⊎-elim
@@ -67,3 +60,17 @@ rooted-next {powers} {ls} {al} u v hu hv r =
           ∙ merged-as (rootOf al) (netFrom (startOf powers) ls) u v n (r .roots u hu) (r .roots v hv) (r .roots n h)
           ∙ sym (net-next (startOf powers) ls u v n);
     }
+
+-- ---- no net is above its joint
+merged-low : (f : ℕ → ℕ) (u v n : ℕ) → merged f u v n ≤ f n
+unfolding merged
+merged-low f u v n = choose (eqb-reads (f n) (max (f u) (f v))) (λ (k : ℕ). k ≤ f n) (λ e. omega arith) (λ ne. omega arith)
+
+from-low : (f : ℕ → ℕ) (ls : List (ℕ × ℕ)) (n : ℕ) → netFrom f ls n ≤ f n
+unfolding netFrom
+from-low f [] n = omega arith
+from-low f (l ∷ ls) n = omega (arith, from-low (merged f (l .0) (l .1)) ls n, merged-low f (l .0) (l .1) n)
+
+pub net-low : (net : Net ℕ) (n : ℕ) → netOf net n ≤ n
+unfolding netOf
+net-low net n = omega (arith, from-low (startOf (net .powers)) (net .links) n, start-low (net .powers) n)

@@ -2,13 +2,13 @@
 use mathlib.Core.Path.{_≡_, refl, sym, ap, _∙_}
 use mathlib.Core.Logic.{⊎-elim}
 use mathlib.Core.List.{List, [], _∷_}
-use Prim.Native.Nat.{ℕ, zero, suc, _<_}
+use Prim.Native.Nat.{ℕ, zero, suc, _≤_, _<_}
 use native.Mathlib.Numerals.{add-one}
 use native.Mathlib.Omega.{arith}
-use lib.ListN.{length, getD, set, length-append, length-set, List·getD-append}
+use lib.ListN.{length, getD, set, length-append, List·getD-append, List·getD-eq-default}
 use lib.Seq.{ext-getD, getD-at, getD-set-same, getD-set-other}
-use Rattle.lists.proofs.Tests.{decide, eqb-reads}
-use Rattle.nets.specs.Tables.{tabulate}
+use Rattle.lists.proofs.Tests.{decide, eqb-reads, ltb-reads}
+use Rattle.nets.specs.Tables.{tabulate, Falling}
 
 pub length-tabulate : (f : ℕ → ℕ) (n : ℕ) → length (tabulate f n) ≡ n
 unfolding tabulate
@@ -26,6 +26,17 @@ tabulate-at f (suc n) i h = ⊎-elim
 -- a list is told by what stands at each place
 pub tabulated : (l : List ℕ) (f : ℕ → ℕ) (n : ℕ) → length l ≡ n → ((i : ℕ) → i < n → getD l i 0 ≡ f i) → l ≡ tabulate f n
 tabulated l f n len h = ext-getD 0 l (tabulate f n) (len ∙ sym (length-tabulate f n)) (λ i lt. h i (omega (arith, lt, len)) ∙ sym (tabulate-at f n i (omega (arith, lt, len))))
+
+pub tabulate-as : (f g : ℕ → ℕ) (n : ℕ) → ((i : ℕ) → i < n → f i ≡ g i) → tabulate f n ≡ tabulate g n
+tabulate-as f g n h = tabulated (tabulate f n) g n (length-tabulate f n) (λ i lt. tabulate-at f n i lt ∙ h i lt)
+
+pub tabulate-falls : (f : ℕ → ℕ) (n : ℕ) → ((i : ℕ) → f i ≤ i) → Falling (tabulate f n)
+tabulate-falls f n h = record {
+  low = λ i. ⊎-elim
+      (λ (lt : i < n). omega (arith, tabulate-at f n i lt, h i))
+      (λ (ge : i < n → ⊥). omega (arith, List·getD-eq-default (tabulate f n) 0 {n = i} (omega (arith, ge, length-tabulate f n))))
+      (decide (ltb-reads i n));
+}
 
 -- what stands at each place after a store
 pub after-set : (l : List ℕ) (i v j w : ℕ) → i < length l → (j ≡ i → v ≡ w) → ((j ≡ i → ⊥) → getD l j 0 ≡ w) → getD (set l i v) j 0 ≡ w

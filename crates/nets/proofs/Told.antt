@@ -2,7 +2,7 @@
 use mathlib.Core.Path.{_≡_, refl, sym, ap, ap₂, subst, _∙_}
 use mathlib.Core.Logic.{⊎-elim, _↔_}
 use mathlib.Core.List.{List, [], _∷_, map, List·Memᴰ·not-nil as ∈-nil, Memᴰ·of-map as ∈-of-map, Memᴰ·map as ∈-map}
-use Prim.Native.Nat.{ℕ, _<_}
+use Prim.Native.Nat.{ℕ, _≤_, _<_}
 use native.Mathlib.Omega.{arith}
 use lib.Dec.{eqb}
 use lib.ListN.{length, length-map}
@@ -44,6 +44,12 @@ start-power powers n i = choose (start-reads powers n) (λ m. m ≡ 0) (λ p. re
 pub start-other : (powers : List ℕ) (n : ℕ) → (n ∈ powers → ⊥) → startOf powers n ≡ n
 unfolding startOf
 start-other powers n f = choose (start-reads powers n) (λ m. m ≡ n) (λ i. absurd (f i)) (λ g. refl)
+
+pub start-low : (powers : List ℕ) (n : ℕ) → startOf powers n ≤ n
+start-low powers n = ⊎-elim
+    (λ (i : n ∈ powers). omega (arith, start-power powers n i))
+    (λ (f : n ∈ powers → ⊥). omega (arith, start-other powers n f))
+    (decide (start-reads powers n))
 
 -- the points of J have numbers of their own, and ps are those of the power pads
 module _ {P : Type 0} {J : P → Type 0} {powers : List P} (number : P → ℕ) (ps : List ℕ)

@@ -1,67 +1,55 @@
 -- Passes over the tables, one pad or one wire at a time.
-use mathlib.Core.Path.{_≡_, refl, sym, ap, subst, _∙_}
+use mathlib.Core.Path.{_≡_, refl, sym, ap, ap₂, _∙_}
 use mathlib.Core.Logic.{⊎-elim}
 use mathlib.Core.List.{List, [], _∷_, _++_, map, List·Memᴰ·head as ∈-head, List·Memᴰ·tail as ∈-tail, Memᴰ·map as ∈-map, Memᴰ·append-left as ∈-left, Memᴰ·append-right as ∈-right, List·Memᴰ·append-cases as ∈-append, List·Memᴰ·not-nil as ∈-nil}
-use Prim.Native.Nat.{ℕ, zero, suc, _+_, _≤_, _<_}
-use native.Mathlib.Nat.{le-of-suc-le-suc}
-use native.Mathlib.Numerals.{add-one}
+use Prim.Native.Nat.{ℕ, _+_, _<_}
 use native.Mathlib.Omega.{arith}
-use lib.ListN.{length, getD, set, take, length-set, length-take, length-map}
-use lib.Seq.{take-suc, getD-take}
+use lib.ListN.{length, getD, set, take, length-set}
 use Rattle.lists.specs.Lists.{_∈_}
 use Rattle.lists.proofs.Lists.{in-one}
+use Rattle.lists.proofs.Tables.{row-in}
+use Rattle.lists.proofs.Passes.{take-more}
 use Rattle.lists.proofs.Tests.{decide}
 use Rattle.nets.specs.declared.Link.{Link}
 use Rattle.nets.specs.declared.Links.{Links}
 use Rattle.nets.specs.declared.Pads.{Pads}
 use Rattle.nets.specs.Numbers.{startOf}
-use Rattle.nets.specs.Tables.{Joint, Wired, Padded, endsOf, linksOf, jointsOf, tabulate}
+use Rattle.nets.specs.Tables.{JointNumber, Wired, Padded, endsOf, linkRows, padRows, tabulate}
 use Rattle.nets.proofs.Tabulate.{tabulated, tabulate-at, length-tabulate, after-set}
 use Rattle.nets.proofs.Told.{start-reads, start-power, start-other}
 
 -- ---- for lists
+map-snoc : {A B : Type 0} (f : A → B) (xs : List A) (x : A) → map f (xs ++ (x ∷ [])) ≡ map f xs ++ (f x ∷ [])
+map-snoc f [] x = refl
+map-snoc f (y ∷ xs) x = ap (λ l. f y ∷ l) (map-snoc f xs x)
 
--- the length of an array of rows, from what owning it tells
-pub long : (X Y : Type 0) (f : X → Y) (l : List X) (n : ℕ) → length (map f l) ≡ n → length l ≡ n
-long X Y f l n e = sym (length-map l f) ∙ e
-
-module _ {A : Type 0} where
-  getD-in : (xs : List A) (i : ℕ) (d : A) → i < length xs → getD xs i d ∈ xs
-  getD-in [] i d h = absurd (omega arith)
-  getD-in (x ∷ xs) zero d h = ∈-head refl
-  getD-in (x ∷ xs) (suc i) d h = ∈-tail (getD-in xs i d (le-of-suc-le-suc h))
-
-  -- the row at a place below n is among the first n
-  take-in : (xs : List A) (n i : ℕ) (d : A) → i < n → i < length xs → getD xs i d ∈ take n xs
-  take-in xs n i d h g = subst (λ x. x ∈ take n xs) (getD-take n xs i d h) (getD-in (take n xs) i d (omega (arith, length-take n xs)))
-
-  -- one row more
-  take-next : (xs : List A) (i : ℕ) (d : A) → i < length xs → take (i + 1) xs ≡ take i xs ++ (getD xs i d ∷ [])
-  take-next xs i d h = ap (λ n. take n xs) (add-one i) ∙ take-suc xs i d h
-
-  map-snoc : {B : Type 0} (f : A → B) (xs : List A) (x : A) → map f (xs ++ (x ∷ [])) ≡ map f xs ++ (f x ∷ [])
-  map-snoc f [] x = refl
-  map-snoc f (y ∷ xs) x = ap (λ l. f y ∷ l) (map-snoc f xs x)
+pub map-as : {A B : Type 0} {f g : A → B} (xs : List A) → ((x : A) → x ∈ xs → f x ≡ g x) → map f xs ≡ map g xs
+map-as [] h = refl
+map-as (x ∷ xs) h = ap₂ _∷_ (h x (∈-head refl)) (map-as xs (λ y i. h y (∈-tail i)))
 
 -- ---- pads
 
-module _ (t : Pads) (long : length (t .joints) ≡ 384) (padded : Padded t) (i : ℕ) (h : i < t .count) where
-  pub pad-joint : Joint (getD (t .joints) i 0)
-  unfolding jointsOf
-  pad-joint = padded .joints (getD (t .joints) i 0) (take-in (t .joints) (t .count) i 0 h (omega (arith, padded .room)))
+module _ (t : Pads) (long : length (t .rows) ≡ 384) (padded : Padded t) (i : ℕ) (h : i < t .count) where
+  pub pad-joint : JointNumber (getD (t .rows) i 0)
+  unfolding padRows
+  pad-joint = padded .joints (getD (t .rows) i 0) (row-in (t .rows) (t .count) i 0 h (omega (arith, padded .room)))
 
-  pub pad-next : take (i + 1) (t .joints) ≡ take i (t .joints) ++ (getD (t .joints) i 0 ∷ [])
-  pad-next = take-next (t .joints) i 0 (omega (arith, padded .room))
+  pub pad-next : take (i + 1) (t .rows) ≡ take i (t .rows) ++ (getD (t .rows) i 0 ∷ [])
+  pad-next = take-more (t .rows) i 0 (omega (arith, padded .room))
+
+  -- what f is of the pads passed
+  pub pads-next : (f : ℕ → ℕ) → map f (take (i + 1) (t .rows)) ≡ map f (take i (t .rows)) ++ (f (getD (t .rows) i 0) ∷ [])
+  pads-next f = ap (map f) pad-next ∙ map-snoc f (take i (t .rows)) (getD (t .rows) i 0)
 
 -- ---- wires
 
 module _ (t : Links) (long : length (t .rows) ≡ 512) (wired : Wired t) (k : ℕ) (h : k < t .count) (d : Link) where
-  pub wire-joints : Joint (getD (t .rows) k d .from) × Joint (getD (t .rows) k d .to)
-  unfolding linksOf
-  wire-joints = wired .ends (endsOf (getD (t .rows) k d)) (∈-map endsOf (take-in (t .rows) (t .count) k d h (omega (arith, wired .room))))
+  pub wire-joints : JointNumber (getD (t .rows) k d .from) × JointNumber (getD (t .rows) k d .to)
+  unfolding linkRows
+  wire-joints = wired .ends (endsOf (getD (t .rows) k d)) (∈-map endsOf (row-in (t .rows) (t .count) k d h (omega (arith, wired .room))))
 
   pub wire-next : map endsOf (take (k + 1) (t .rows)) ≡ map endsOf (take k (t .rows)) ++ (endsOf (getD (t .rows) k d) ∷ [])
-  wire-next = ap (map endsOf) (take-next (t .rows) k d (omega (arith, wired .room))) ∙ map-snoc endsOf (take k (t .rows)) (getD (t .rows) k d)
+  wire-next = ap (map endsOf) (take-more (t .rows) k d (omega (arith, wired .room))) ∙ map-snoc endsOf (take k (t .rows)) (getD (t .rows) k d)
 
 -- ---- the aliases before any wire, one power pad at a time
 

@@ -11,7 +11,7 @@ use Rattle.nets.specs.Nets.{Net}
 use Rattle.nets.specs.Numbers.{netOf, rank}
 
 -- a joint's number: its row, counted from 1
-pub record Joint (n : ℕ) : Type 0 where
+pub record JointNumber (n : ℕ) : Type 0 where
   pub low : 0 < n
   pub high : n < 1409
 
@@ -19,25 +19,25 @@ abbrev pub endsOf : Link → ℕ × ℕ
 endsOf l = (l .from, l .to)
 
 -- the wires of a table, by the joints at their ends
-unfoldable pub linksOf : Links → List (ℕ × ℕ)
-linksOf t = map endsOf (take (t .count) (t .rows))
+unfoldable pub linkRows : Links → List (ℕ × ℕ)
+linkRows t = map endsOf (take (t .count) (t .rows))
 
--- the joints of a table of pads
-unfoldable pub jointsOf : Pads → List ℕ
-jointsOf t = take (t .count) (t .joints)
+-- the pads of a table, by their joints
+unfoldable pub padRows : Pads → List ℕ
+padRows t = take (t .count) (t .rows)
 
 abbrev pub netIn : Links → Pads → Net ℕ
-netIn wires powers = record { links = linksOf wires; powers = jointsOf powers }
+netIn wires powers = record { links = linkRows wires; powers = padRows powers }
 
 -- the table is not overfull, and each wire end is a joint
 pub record Wired (t : Links) : Type 0 where
   pub room : t .count ≤ 512
-  pub ends : (l : ℕ × ℕ) → l ∈ linksOf t → Joint (l .0) × Joint (l .1)
+  pub ends : (l : ℕ × ℕ) → l ∈ linkRows t → JointNumber (l .0) × JointNumber (l .1)
 
 -- the table is not overfull, and each pad is at a joint
 pub record Padded (t : Pads) : Type 0 where
   pub room : t .count ≤ 384
-  pub joints : (n : ℕ) → n ∈ jointsOf t → Joint n
+  pub joints : (n : ℕ) → n ∈ padRows t → JointNumber n
 
 -- f of 0, 1, .. below n
 unfoldable pub tabulate : (ℕ → ℕ) → ℕ → List ℕ

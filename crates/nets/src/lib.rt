@@ -1,11 +1,12 @@
 // Which pads are on one net, and the numbers of the nets. Wires and pads come by the numbers of their joints: row + 1.
 ghost use mathlib.Core.Path.{_≡_};
-ghost use mathlib.Core.List.{List, _++_, map};
-ghost use Prim.Native.Nat.{ℕ, _-_, _<_};
-ghost use lib.ListN.{getD, replicate};
+ghost use mathlib.Core.List.{List, map};
+ghost use Prim.Native.Nat.{ℕ, _<_};
+ghost use lib.ListN.{getD};
+ghost use Rattle.lists.specs.Tables.{pad};
 ghost use Rattle.nets.specs.Numbers;
 ghost use Rattle.nets.specs.Numbers.{startOf, netOf, numbering, numbersOf};
-ghost use Rattle.nets.specs.Tables.{Joint, Wired, Padded, netIn, jointsOf, tabulate, Falling, rootOf, joinOf, Rooted, Ranked};
+ghost use Rattle.nets.specs.Tables.{JointNumber, Wired, Padded, netIn, padRows, tabulate, Falling, rootOf, joinOf, Rooted, Ranked};
 
 // A wire by the joints at its two ends.
 pub struct Link {
@@ -20,7 +21,7 @@ pub struct Links {
 
 // Pads by their joints.
 pub struct Pads {
-    pub joints: [u16; 384],
+    pub rows: [u16; 384],
     pub count: usize,
 }
 
@@ -35,7 +36,7 @@ fn root(alias: &[u16; 1409], n: u16) -> u16
 
 // A wire from u to v: the larger of the two roots gets the smaller one as its alias.
 fn join(alias: &mut [u16; 1409], u: u16, v: u16)
-    requires { ⌜ Falling (now alias) ⌝ ∗ ⌜ Joint u ⌝ ∗ ⌜ Joint v ⌝ }
+    requires { ⌜ Falling (now alias) ⌝ ∗ ⌜ JointNumber u ⌝ ∗ ⌜ JointNumber v ⌝ }
     ensures { λ _. ⌜ now (alias .exit) ≡ joinOf (now (alias .entry)) u v ⌝ }
 {
     let x = root(alias, u);
@@ -63,12 +64,12 @@ fn own() -> [u16; 1409]
 // The aliases before any wire: 0 at a joint with a power pad, and its own number at any other.
 fn start(powers: Pads) -> [u16; 1409]
     requires { ⌜ Padded powers ⌝ }
-    ensures { λ r. ⌜ r ≡ tabulate (startOf (jointsOf powers)) 1409 ⌝ }
+    ensures { λ r. ⌜ r ≡ tabulate (startOf (padRows powers)) 1409 ⌝ }
 {
     let mut alias = own();
     let mut i: usize = 0;
     while i < powers.count {
-        let n = powers.joints[i];
+        let n = powers.rows[i];
         alias[n as usize] = 0;
         i += 1;
     }
@@ -128,14 +129,14 @@ fn meet(given: &mut [u16; 1409], count: u16, net: u16) -> u16
 // The numbers of the pads' nets in the order in which these are met, 0 for net 0; and zeros behind them.
 fn number(nets: [u16; 1409], pads: Pads) -> [u16; 384]
     requires { ⌜ Falling nets ⌝ ∗ ⌜ Padded pads ⌝ }
-    ensures { λ r. ⌜ r ≡ numbering (map (λ n. getD nets n 0) (jointsOf pads)) ++ replicate (384 - pads .count) 0 ⌝ }
+    ensures { λ r. ⌜ r ≡ pad 384 0 (numbering (map (λ n. getD nets n 0) (padRows pads))) ⌝ }
 {
     let mut out = [0u16; 384];
     let mut given = [0u16; 1409];
     let mut count = meet(&mut given, 0, 0);
     let mut i: usize = 0;
     while i < pads.count {
-        let n = pads.joints[i];
+        let n = pads.rows[i];
         let net = nets[n as usize];
         count = meet(&mut given, count, net);
         out[i] = given[net as usize] - 1;
@@ -147,7 +148,7 @@ fn number(nets: [u16; 1409], pads: Pads) -> [u16; 384]
 // The net numbers of the pads of a drawing.
 pub fn pad_nets(wires: Links, powers: Pads, pads: Pads) -> [u16; 384]
     requires { ⌜ Wired wires ⌝ ∗ ⌜ Padded powers ⌝ ∗ ⌜ Padded pads ⌝ }
-    ensures { λ r. ⌜ r ≡ numbersOf (netIn wires powers) (jointsOf pads) ++ replicate (384 - pads .count) 0 ⌝ }
+    ensures { λ r. ⌜ r ≡ pad 384 0 (numbersOf (netIn wires powers) (padRows pads)) ⌝ }
 {
     number(nets(wires, powers), pads)
 }

@@ -5,10 +5,11 @@ use Prim.Native.Nat.{ℕ, _≤_, _<_, _-_}
 use native.Mathlib.Omega.{arith}
 use borrow.Author.Needs.{needs}
 use lib.ListN.{length, getD, take}
+use Rattle.lists.proofs.Tables.{long}
 use Rattle.nets.specs.Numbers.{startOf}
-use Rattle.nets.specs.Tables.{Joint, Rooted, endsOf, linksOf, jointsOf, tabulate}
+use Rattle.nets.specs.Tables.{JointNumber, Rooted, endsOf, linkRows, padRows, tabulate}
 use Rattle.nets.proofs.Chains.{netWith}
-use Rattle.nets.proofs.Walks.{long, wire-joints, wire-next}
+use Rattle.nets.proofs.Walks.{wire-joints, wire-next}
 use Rattle.nets.proofs.Rooted.{rooted-start, rooted-next}
 use Rattle.nets.proofs.aliases.Statement.{statement}
 use Rattle.nets.proofs.aliases.Tie as tie
@@ -32,14 +33,14 @@ element-copy-out-wire : tie.Need-element-copy-out-wire Inv-loop μ-loop
 element-copy-out-wire c = omega (arith, c .before .before .before .pre .0 .room)
 
 -- the ends of the wire that the pass is at
-joints : (a : tie.Start Inv-loop μ-loop) (k : ℕ) → k < a .args .t1 .count → Joint (getD (a .args .t1 .rows) k (record { from = 0; to = 0 }) .from) × Joint (getD (a .args .t1 .rows) k (record { from = 0; to = 0 }) .to)
+joints : (a : tie.Start Inv-loop μ-loop) (k : ℕ) → k < a .args .t1 .count → JointNumber (getD (a .args .t1 .rows) k (record { from = 0; to = 0 }) .from) × JointNumber (getD (a .args .t1 .rows) k (record { from = 0; to = 0 }) .to)
 joints a k h = wire-joints (a .args .t1) (search long) (a .pre .0) k h (record { from = 0; to = 0 })
 
 join-requires : tie.Need-join-requires Inv-loop μ-loop
 join-requires c κs =
     let a = c .before .before .before .before .before in
     let l = c .before .before .before .loop in
-    (l .inv .1 (jointsOf (a .args .powers)) (c .before .before .before .before .start .ensures) .falls, joints a (l .k) (c .before .before .loop-test .taken))
+    (l .inv .1 (padRows (a .args .powers)) (c .before .before .before .before .start .ensures) .falls, joints a (l .k) (c .before .before .loop-test .taken))
 
 add-k : tie.Need-add-k Inv-loop μ-loop
 add-k c = omega (arith, c .before .before .before .before .before .before .pre .0 .room)
@@ -59,12 +60,12 @@ loop-again c =
     )
 
 returns : tie.Need-returns Inv-loop μ-loop
-unfolding linksOf
+unfolding linkRows
 returns c =
     let a = c .before .before .before in
     let l = c .before .loop in
     let e : l .k ≡ a .args .t1 .count = omega arith in
-    rw (← e) (l .inv .1 (jointsOf (a .args .powers)) (c .before .before .start .ensures))
+    rw (← e) (l .inv .1 (padRows (a .args .powers)) (c .before .before .start .ensures))
 
 pub aliases-spec : {M : Type 1} → statement M
 aliases-spec =

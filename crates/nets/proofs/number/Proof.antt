@@ -1,86 +1,112 @@
+-- `nets::number` meets its contract: the pads passed have the numbers of their nets.
+use mathlib.Core.Path.{_≡_, sym, ap, subst, _∙_}
+use mathlib.Core.List.{List, [], _∷_, map}
+use Prim.Native.Nat.{ℕ, _≤_, _<_, _-_}
+use native.Mathlib.Omega.{arith}
+use borrow.Author.Needs.{needs}
+use lib.ListN.{length, getD, take}
+use Rattle.nets.specs.Tables.{JointNumber, padRows}
+use Rattle.nets.proofs.Walks.{pad-joint, pads-next}
+use Rattle.nets.proofs.Ranks.{Passed, ranked-none, passed-none, passed-rank, passed-next}
 use Rattle.nets.proofs.number.Statement.{statement}
 use Rattle.nets.proofs.number.Tie as tie
-use Rattle.nets.proofs.number.Reads as reads
-use Rattle.nets.proofs.number.Lts as lts
-use Rattle.nets.proofs.meet.Reads as meet-reads
+
+-- the nets of the first i pads
+abbrev netsAt : List ℕ → List ℕ → ℕ → List ℕ
+netsAt nets rows i = map (λ n. getD nets n 0) (take i rows)
 
 abbrev Inv-loop : tie.InvT-loop
-Inv-loop nets pads out₀ given₀ count₀ i₀ out given count i = ?
+Inv-loop nets pads out₀ given₀ count₀ i₀ out given count i = (i ≤ pads .count) × Passed (netsAt nets (pads .rows) i) count given out i
 
 abbrev μ-loop : tie.MeasureT-loop
-μ-loop nets pads out₀ given₀ count₀ i₀ out given count i = ?
+μ-loop nets pads out₀ given₀ count₀ i₀ out given count i = pads .count - i
 
--- src/lib.rt:135:9
 meet-requires : tie.Need-meet-requires Inv-loop μ-loop
-meet-requires c κs = ?
+meet-requires c κs = search needs
 
--- src/lib.rt:137:5
 loop-holds : tie.Need-loop-holds Inv-loop μ-loop
-loop-holds c = ?
+loop-holds c = (omega arith, passed-none (c .meet .ensures [] ranked-none))
 
--- src/lib.rt:138:17
+-- the pad that the pass is at: its place, its joint and its net
+module _ (c : tie.In-loop Inv-loop μ-loop) where
+  abbrev start : tie.Start Inv-loop μ-loop
+  start = c .before .before .before .before
+
+  abbrev i : ℕ
+  i = c .before .loop .i
+
+  abbrev joint : ℕ
+  joint = getD (start .args .t2 .rows) i 0
+
+  room : i < 384
+  room = omega (arith, c .loop-test .taken, start .pre .1 .room)
+
+  at-joint : JointNumber joint
+  at-joint = pad-joint (start .args .t2) (search needs) (start .pre .1) i (c .loop-test .taken)
+
+  at-net : getD (start .args .t1) joint 0 < 1409
+  at-net = omega (arith, start .pre .0 .low joint, at-joint .high)
+
 mul-n : tie.Need-mul-n Inv-loop μ-loop
-mul-n c = ?
+mul-n c = omega (arith, room c)
 
--- src/lib.rt:138:17
 element-copy-out-n : tie.Need-element-copy-out-n Inv-loop μ-loop
-element-copy-out-n c = ?
+element-copy-out-n c = room c
 
--- src/lib.rt:139:24
 cast-net : tie.Need-cast-net Inv-loop μ-loop
-cast-net c = ?
+cast-net c = omega (arith, at-joint (c .before) .high)
 
--- src/lib.rt:139:19
 mul-net : tie.Need-mul-net Inv-loop μ-loop
-mul-net c = ?
+mul-net c = omega (arith, at-joint (c .before) .high)
 
--- src/lib.rt:139:19
 array-read-net : tie.Need-array-read-net Inv-loop μ-loop
-array-read-net c = ?
+array-read-net c = at-joint (c .before) .high
 
--- src/lib.rt:140:9
 meet-requires-2 : tie.Need-meet-requires-2 Inv-loop μ-loop
-meet-requires-2 c κs = ?
+meet-requires-2 c κs = (at-net (c .before .before), omega (arith, room (c .before .before), c .before .before .before .loop .inv .1 .few))
 
--- src/lib.rt:141:24
 cast-out : tie.Need-cast-out Inv-loop μ-loop
-cast-out c = ?
+cast-out c = omega (arith, at-net (c .before .before .before))
 
--- src/lib.rt:141:18
 mul-out : tie.Need-mul-out Inv-loop μ-loop
-mul-out c = ?
+mul-out c = omega (arith, at-net (c .before .before .before))
 
--- src/lib.rt:141:18
 array-read-out : tie.Need-array-read-out Inv-loop μ-loop
-array-read-out c = ?
+array-read-out c = at-net (c .before .before .before)
 
--- src/lib.rt:141:18
 sub-out : tie.Need-sub-out Inv-loop μ-loop
-sub-out c = ?
+sub-out c =
+    let p = c .before .before .before in
+    let l = c .before .before .before .before .loop in
+    passed-rank _ (l .count) (l .given) (l .out) (l .i) (l .inv .1) _ (at-net p) (c .meet2 .result) (c .meet2 .last .0) (c .meet2 .ensures _ (l .inv .1 .ranked))
 
--- src/lib.rt:141:9
 mul-out-2 : tie.Need-mul-out-2 Inv-loop μ-loop
-mul-out-2 c = ?
+mul-out-2 c = omega (arith, room (c .before .before .before))
 
--- src/lib.rt:141:9
 array-write-out : tie.Need-array-write-out Inv-loop μ-loop
-array-write-out c = ?
+array-write-out c = room (c .before .before .before)
 
--- src/lib.rt:142:9
 add-i : tie.Need-add-i Inv-loop μ-loop
-add-i c = ?
+add-i c = omega (arith, room (c .before .before .before))
 
--- src/lib.rt:137:5
 loop-less : tie.Need-loop-less Inv-loop μ-loop
-loop-less c = ?
+loop-less c = omega arith
 
--- src/lib.rt:137:5
 loop-again : tie.Need-loop-again Inv-loop μ-loop
-loop-again c = ?
+loop-again c =
+    let p = c .before .before .before in
+    let l = c .before .before .before .before .loop in
+    let a = c .before .before .before .before .before .before .before in
+    let next = passed-next _ (l .count) (l .given) (l .out) (l .i) (l .inv .1) _ (at-net p) (c .meet2 .result) (c .meet2 .last .0) (c .meet2 .ensures _ (l .inv .1 .ranked)) (room p) in
+    (omega arith, rw (pads-next (a .args .t2) (search needs) (a .pre .1) (l .i) (p .loop-test .taken) (λ n. getD (a .args .t1) n 0)) next)
 
--- src/lib.rt:129:1
 returns : tie.Need-returns Inv-loop μ-loop
-returns c = ?
+unfolding padRows
+returns c =
+    let a = c .before .before .before .before in
+    let l = c .before .loop in
+    let e : l .i ≡ a .args .t2 .count = omega arith in
+    rw (← e) (l .inv .1 .numbers .rows-are)
 
 pub number-spec : {M : Type 1} → statement M
 number-spec =

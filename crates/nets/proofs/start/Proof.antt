@@ -5,13 +5,13 @@ use native.Mathlib.Omega.{arith}
 use borrow.Author.Needs.{needs}
 use lib.ListN.{length, getD, set, take}
 use Rattle.nets.specs.Numbers.{startOf}
-use Rattle.nets.specs.Tables.{Joint, jointsOf, tabulate}
+use Rattle.nets.specs.Tables.{JointNumber, padRows, tabulate}
 use Rattle.nets.proofs.Walks.{pad-joint, pad-next, start-none, start-next}
 use Rattle.nets.proofs.start.Statement.{statement}
 use Rattle.nets.proofs.start.Tie as tie
 
 abbrev Inv-loop : tie.InvT-loop
-Inv-loop powers alias₀ i₀ alias i = (i ≤ powers .count) × (alias ≡ tabulate (startOf (take i (powers .joints))) 1409)
+Inv-loop powers alias₀ i₀ alias i = (i ≤ powers .count) × (alias ≡ tabulate (startOf (take i (powers .rows))) 1409)
 
 abbrev μ-loop : tie.MeasureT-loop
 μ-loop powers alias₀ i₀ alias i = powers .count - i
@@ -29,7 +29,7 @@ element-copy-out-n : tie.Need-element-copy-out-n Inv-loop μ-loop
 element-copy-out-n c = omega (arith, c .before .before .before .pre .room)
 
 -- the joint of the pad that the pass is at
-at-joint : (c : tie.After-n Inv-loop μ-loop) → Joint (getD (c .before .before .before .before .args .t1 .joints) (c .before .before .loop .i) 0)
+at-joint : (c : tie.After-n Inv-loop μ-loop) → JointNumber (getD (c .before .before .before .before .args .t1 .rows) (c .before .before .loop .i) 0)
 at-joint c = let a = c .before .before .before .before in pad-joint (a .args .t1) (search needs) (a .pre) (c .before .before .loop .i) (c .before .loop-test .taken)
 
 cast-alias : tie.Need-cast-alias Inv-loop μ-loop
@@ -51,19 +51,19 @@ loop-again : tie.Need-loop-again Inv-loop μ-loop
 loop-again c =
     let a = c .before .before .before .before in
     let l = c .before .before .loop in
-    let p = getD (a .args .t1 .joints) (l .i) 0 in (
+    let p = getD (a .args .t1 .rows) (l .i) 0 in (
       omega arith,
-      ap (λ t. set t p 0) (l .inv .1) ∙ start-next (take (l .i) (a .args .t1 .joints)) p (at-joint c .high)
+      ap (λ t. set t p 0) (l .inv .1) ∙ start-next (take (l .i) (a .args .t1 .rows)) p (at-joint c .high)
           ∙ ap (λ ps. tabulate (startOf ps) 1409) (sym (pad-next (a .args .t1) (search needs) (a .pre) (l .i) (c .before .loop-test .taken))),
     )
 
 returns : tie.Need-returns Inv-loop μ-loop
-unfolding jointsOf
+unfolding padRows
 returns c =
     let l = c .before .loop in
     let powers = c .before .before .before .args .t1 in
     let e : l .i ≡ powers .count = omega arith in
-    l .inv .1 ∙ ap (λ i. tabulate (startOf (take i (powers .joints))) 1409) e
+    l .inv .1 ∙ ap (λ i. tabulate (startOf (take i (powers .rows))) 1409) e
 
 pub start-spec : {M : Type 1} → statement M
 start-spec =
