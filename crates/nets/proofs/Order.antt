@@ -1,10 +1,10 @@
 -- Numbers given in order are told by which places have one number and which have 0.
-use mathlib.Core.Path.{_≡_, refl, sym, ap, ap₂, _∙_}
+use mathlib.Core.Path.{_≡_, refl, sym, ap, ap₂}
 use mathlib.Core.Logic.{_↔_, ⊎-elim}
-use mathlib.Core.List.{List, [], _∷_}
-use Prim.Native.Nat.{ℕ, suc, _≤_, _<_}
+use mathlib.Core.List.{List, _∷_}
+use Prim.Native.Nat.{ℕ, zero, suc, _+_, _≤_, zero-le}
 use native.Mathlib.Omega.{arith}
-use lib.ListN.{length}
+use lib.ListN.{length, getD}
 use Rattle.lists.proofs.Tests.{decide, leb-reads}
 use Rattle.nets.specs.Nets.{At, first, later, InOrder, done, old, new}
 
@@ -47,3 +47,11 @@ order-told (old h r) (old h′ s) len given all =
 order-told (old h r) (new s) len given all = absurd (omega (arith, head-old given h))
 order-told (new r) (old h′ s) len given all = absurd (omega (arith, head-old′ given h′))
 order-told {k} (new {ns = ns} r) (new {ns = ms} s) len given all = ap (λ l. suc k ∷ l) (order-told r s (omega arith) (given-next given all) (all-rest all))
+
+-- no number is above how many there are
+pub order-low : {k : ℕ} {ns : List ℕ} → InOrder k ns → (i : ℕ) → getD ns i 0 ≤ k + length ns
+order-low done i = zero-le
+order-low (old h r) zero = omega arith
+order-low (old h r) (suc i) = omega (arith, order-low r i)
+order-low (new r) zero = omega arith
+order-low (new r) (suc i) = omega (arith, order-low r i)

@@ -1,10 +1,10 @@
 -- What stands at a place of a list.
-use mathlib.Core.Path.{_≡_, refl, ap}
+use mathlib.Core.Path.{_≡_, refl}
 use mathlib.Core.List.{List, [], _∷_, map, List·Memᴰ·head as ∈-head, List·Memᴰ·tail as ∈-tail}
 use Prim.Native.Nat.{ℕ, zero, suc, _<_, suc-le-suc}
 use native.Mathlib.Nat.{le-of-suc-le-suc}
 use native.Mathlib.Omega.{arith}
-use lib.ListN.{length, getD}
+use lib.ListN.{length}
 use Rattle.lists.specs.Lists.{_∈_}
 use Rattle.nets.specs.Nets.{At, first, later}
 

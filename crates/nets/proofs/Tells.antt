@@ -1,5 +1,5 @@
 -- A number for each point tells the nets when it is one exactly on one net, and 0 exactly when fed. Merging the numbers at a wire's two ends keeps that up, wire by wire.
-use mathlib.Core.Path.{_≡_, refl, sym, ap, subst, _∙_}
+use mathlib.Core.Path.{_≡_, refl, sym, ap, _∙_}
 use mathlib.Core.Bool.{cond}
 use mathlib.Core.Logic.{_⊎_, inl, inr, ⊎-elim, _↔_}
 use mathlib.Core.List.{List, [], _∷_, List·Memᴰ·head as ∈-head, List·Memᴰ·tail as ∈-tail, List·Memᴰ·not-nil as ∈-nil}
@@ -10,9 +10,9 @@ use borrow.Author.Tests.{eq-eqb, ne-eqb}
 use Rattle.lists.specs.Lists.{_∈_}
 use Rattle.lists.proofs.Lists.{in-cons}
 use Rattle.lists.proofs.Tests.{decide, eqb-reads, leb-reads}
-use Rattle.nets.specs.Nets.{Net, Linked, forth, back, Chain, here, on, Fed, OneNet, by-chain, both-fed}
+use Rattle.nets.specs.Nets.{Linked, forth, back, Chain, here, on, Fed, OneNet, by-chain, both-fed}
 use Rattle.nets.specs.Numbers.{merged, netFrom}
-use Rattle.nets.proofs.Chains.{netWith, chain-then, fed-along, net-back, net-then, net-fed, fed-more, net-more}
+use Rattle.nets.proofs.Chains.{netWith, net-back, net-then, net-fed, fed-more, net-more}
 
 module _ {P : Type 0} (J : P → Type 0) (powers : List P) where
   -- what f says at the points of J. What a wire or a power pad says holds at all points

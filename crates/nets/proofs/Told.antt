@@ -1,17 +1,17 @@
 -- The computed nets and numbers are those of the chains: at joints, and at points that each have a joint's number of their own.
-use mathlib.Core.Path.{_≡_, refl, sym, ap, ap₂, subst, _∙_}
+use mathlib.Core.Path.{_≡_, refl, sym, ap₂, subst, _∙_}
 use mathlib.Core.Logic.{⊎-elim, _↔_}
 use mathlib.Core.List.{List, [], _∷_, map, List·Memᴰ·not-nil as ∈-nil, Memᴰ·of-map as ∈-of-map, Memᴰ·map as ∈-map}
 use Prim.Native.Nat.{ℕ, _≤_, _<_}
 use native.Mathlib.Omega.{arith}
 use lib.Dec.{eqb}
-use lib.ListN.{length, length-map}
+use lib.ListN.{length-map}
 use Rattle.lists.specs.Lists.{_∈_, any}
 use Rattle.lists.proofs.Lists.{any-reads}
 use Rattle.lists.proofs.Tests.{Reads, decide, choose, eqb-reads, reads-as}
-use Rattle.nets.specs.Nets.{Net, At, Chain, here, Fed, OneNet, by-chain, both-fed, Numbered}
+use Rattle.nets.specs.Nets.{Net, here, Fed, OneNet, by-chain, both-fed, Numbered}
 use Rattle.nets.specs.Numbers.{merged, netFrom, startOf, netOf, numbering, numbersOf}
-use Rattle.nets.proofs.Places.{at-in, at-map, at-one, at-some, at-low}
+use Rattle.nets.proofs.Places.{at-in, at-map}
 use Rattle.nets.proofs.Chains.{netWith}
 use Rattle.nets.proofs.Tells.{Tells, tells-all, tells-one, tells-fed}
 use Rattle.nets.proofs.Numbering.{numbering-each, numbering-order, numbering-one, numbering-zero}

@@ -1,10 +1,9 @@
 -- `nets::aliases` meets its contract: the aliases lead to the nets that the wires passed make. (The power pads are known by the first aliases.)
-use mathlib.Core.Path.{_≡_, sym, ap, subst, _∙_}
+use mathlib.Core.Path.{_≡_, sym, subst}
 use mathlib.Core.List.{List, [], map}
 use Prim.Native.Nat.{ℕ, _≤_, _<_, _-_}
 use native.Mathlib.Omega.{arith}
-use borrow.Author.Needs.{needs}
-use lib.ListN.{length, getD, take}
+use lib.ListN.{getD, take}
 use Rattle.lists.proofs.Tables.{long}
 use Rattle.nets.specs.Numbers.{startOf}
 use Rattle.nets.specs.Tables.{JointNumber, Rooted, endsOf, linkRows, padRows, tabulate}

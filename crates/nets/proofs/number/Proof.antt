@@ -1,10 +1,10 @@
 -- `nets::number` meets its contract: the pads passed have the numbers of their nets.
-use mathlib.Core.Path.{_≡_, sym, ap, subst, _∙_}
-use mathlib.Core.List.{List, [], _∷_, map}
+use mathlib.Core.Path.{_≡_}
+use mathlib.Core.List.{List, [], map}
 use Prim.Native.Nat.{ℕ, _≤_, _<_, _-_}
 use native.Mathlib.Omega.{arith}
 use borrow.Author.Needs.{needs}
-use lib.ListN.{length, getD, take}
+use lib.ListN.{getD, take}
 use Rattle.nets.specs.Tables.{JointNumber, padRows}
 use Rattle.nets.proofs.Walks.{pad-joint, pads-next}
 use Rattle.nets.proofs.Ranks.{Passed, ranked-none, passed-none, passed-rank, passed-next}

@@ -3,7 +3,7 @@ use mathlib.Core.Path.{_≡_, refl, sym, _∙_}
 use Prim.Native.Nat.{ℕ, _≤_, _<_, _-_}
 use native.Mathlib.Omega.{arith}
 use borrow.Author.Needs.{needs}
-use lib.ListN.{length, getD, length-set, length-replicate}
+use lib.ListN.{length, getD, length-set}
 use Rattle.nets.proofs.Tabulate.{tabulated, after-set}
 use Rattle.nets.proofs.own.Statement.{statement}
 use Rattle.nets.proofs.own.Tie as tie

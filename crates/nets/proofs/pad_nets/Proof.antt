@@ -7,7 +7,7 @@ use lib.ListN.{getD}
 use Rattle.lists.specs.Tables.{pad}
 use Rattle.nets.specs.Nets.{Net}
 use Rattle.nets.specs.Numbers.{netOf, numbering, numbersOf}
-use Rattle.nets.specs.Tables.{Falling, Padded, netIn, padRows, tabulate}
+use Rattle.nets.specs.Tables.{Falling, netIn, padRows}
 use Rattle.nets.proofs.Tabulate.{tabulate-at, tabulate-falls}
 use Rattle.nets.proofs.Rooted.{net-low}
 use Rattle.nets.proofs.Walks.{map-as}

@@ -3,7 +3,7 @@ use mathlib.Core.Path.{_≡_, sym, ap, _∙_}
 use Prim.Native.Nat.{_≤_, _-_}
 use native.Mathlib.Omega.{arith}
 use borrow.Author.Needs.{needs}
-use lib.ListN.{length, getD, set, take}
+use lib.ListN.{getD, set, take}
 use Rattle.nets.specs.Numbers.{startOf}
 use Rattle.nets.specs.Tables.{JointNumber, padRows, tabulate}
 use Rattle.nets.proofs.Walks.{pad-joint, pad-next, start-none, start-next}
