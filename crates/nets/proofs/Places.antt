@@ -1,5 +1,5 @@
 -- What stands at a place of a list.
-use mathlib.Core.Path.{_≡_, refl}
+use mathlib.Core.Path.{_≡_, refl, subst}
 use mathlib.Core.List.{List, [], _∷_, map, List·Memᴰ·head as ∈-head, List·Memᴰ·tail as ∈-tail}
 use Prim.Native.Nat.{ℕ, zero, suc, _<_, suc-le-suc}
 use native.Mathlib.Nat.{le-of-suc-le-suc}
@@ -26,6 +26,10 @@ module _ {A : Type 0} where
   pub at-in : {xs : List A} {i : ℕ} {x : A} → At xs i x → x ∈ xs
   at-in first = ∈-head refl
   at-in (later a) = ∈-tail (at-in a)
+
+  pub in-at : {x : A} {xs : List A} → x ∈ xs → (i : ℕ) × At xs i x
+  in-at {x} (∈-head {xs = ys} e) = (0, subst (λ y. At (y ∷ ys) 0 x) e first)
+  in-at (∈-tail m) = let r = in-at m in (suc (r .0), later (r .1))
 
   pub at-map : {B : Type 0} (f : A → B) {xs : List A} {i : ℕ} {x : A} → At xs i x → At (map f xs) i (f x)
   at-map f first = first

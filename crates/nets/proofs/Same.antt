@@ -5,8 +5,8 @@ use mathlib.Core.List.{List}
 use Prim.Native.Nat.{ℕ}
 use native.Mathlib.Omega.{arith}
 use lib.ListN.{length}
-use Rattle.nets.specs.Nets.{Net, At, Fed, OneNet, Numbered, SameNets}
-use Rattle.nets.proofs.Places.{at-low, at-some, at-one}
+use Rattle.nets.specs.Nets.{Net, At, Fed, OneNet, Numbered, SameOn, SameNets}
+use Rattle.nets.proofs.Places.{at-low, at-some, at-one, at-in, in-at}
 use Rattle.nets.proofs.Order.{Alike, order-told}
 
 -- an equivalence carried over at both ends
@@ -52,12 +52,30 @@ module _ {P Q : Type 0} {net : Net P} {pads : List P} {net′ : Net Q} {pads′ 
   pub same-numbers : (ns ≡ ms) ↔ SameNets net pads net′ pads′
   same-numbers = (nets-same, numbers-same)
 
-across : {A B : Type 0} (F : A → B → Type 0) {a a′ : A} {b b′ : B} → a ≡ a′ → b ≡ b′ → F a b ↔ F a′ b′
-across F {a} {a′} {b} {b′} e g = (λ x. subst (F a′) g (subst (λ y. F y b) e x), λ x. subst (F a) (sym g) (subst (λ y. F y b′) (sym e) x))
+-- one row of pads
+module _ {P : Type 0} {net net′ : Net P} {pads : List P} where
+  on-places : SameOn pads net net′ → SameNets net pads net′ pads
+  on-places s = record {
+    pairs = λ {p = p} {q = q} a a′ b b′. across (λ x y. OneNet net p q ↔ OneNet net′ x y) (at-one a a′) (at-one b b′) (s .pairs p q (at-in a) (at-in b));
+    feds = λ {p = p} a a′. subst (λ x. Fed net p ↔ Fed net′ x) (at-one a a′) (s .feds p (at-in a));
+  }
+    where
+      across : (F : P → P → Type 0) {x x′ y y′ : P} → x ≡ x′ → y ≡ y′ → F x y → F x′ y′
+      across F {x} {x′} {y} {y′} e g t = subst (F x′) g (subst (λ z. F z y) e t)
+
+  on-row : SameNets net pads net′ pads → SameOn pads net net′
+  on-row s = record {
+    pairs = λ p q i j. let a = in-at i in let b = in-at j in s .pairs (a .1) (a .1) (b .1) (b .1);
+    feds = λ p i. let a = in-at i in s .feds (a .1) (a .1);
+  }
+
+  -- two nets number them alike exactly when the same pairs are on one net and the same pads are fed
+  pub same-row : {ns ms : List ℕ} → Numbered net pads ns → Numbered net′ pads ms → (ns ≡ ms) ↔ SameOn pads net net′
+  same-row h h′ = let law = same-numbers h h′ refl in (λ e. on-row (law .0 e), λ s. law .1 (on-places s))
 
 -- a row of pads has one list of net numbers
 pub numbers-only : {P : Type 0} {net : Net P} {pads : List P} {ns ms : List ℕ} → Numbered net pads ns → Numbered net pads ms → ns ≡ ms
-numbers-only {net = net} h h′ = same-numbers h h′ refl .1 (record {
-  pairs = λ a a′ b b′. across (OneNet net) (at-one a a′) (at-one b b′);
-  feds = λ a a′. across (λ p q. Fed net p) (at-one a a′) (at-one a a′);
-})
+numbers-only h h′ = same-row h h′ .1 (record { pairs = λ p q i j. itself; feds = λ p i. itself })
+  where
+    itself : {A : Type 0} → A ↔ A
+    itself = (λ a. a, λ a. a)

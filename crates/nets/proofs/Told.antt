@@ -5,7 +5,7 @@ use mathlib.Core.List.{List, [], _∷_, map, List·Memᴰ·not-nil as ∈-nil, M
 use Prim.Native.Nat.{ℕ, _≤_, _<_}
 use native.Mathlib.Omega.{arith}
 use lib.Dec.{eqb}
-use lib.ListN.{length-map}
+use lib.ListN.{length, getD, length-map}
 use Rattle.lists.specs.Lists.{_∈_, any}
 use Rattle.lists.proofs.Lists.{any-reads}
 use Rattle.lists.proofs.Tests.{Reads, decide, choose, eqb-reads, reads-as}
@@ -14,6 +14,7 @@ use Rattle.nets.specs.Numbers.{merged, netFrom, startOf, netOf, numberin
 use Rattle.nets.proofs.Places.{at-in, at-map}
 use Rattle.nets.proofs.Chains.{netWith}
 use Rattle.nets.proofs.Tells.{Tells, tells-all, tells-one, tells-fed}
+use Rattle.nets.proofs.Order.{order-low}
 use Rattle.nets.proofs.Numbering.{numbering-each, numbering-order, numbering-one, numbering-zero}
 
 -- ---- before any wire
@@ -113,7 +114,7 @@ module _ {P : Type 0} where
       }
 
   -- the points of J have joint numbers of their own, and each wire end, power pad and pad is one of them
-  pub record Joints (J : P → Type 0) (number : P → ℕ) (net : Net P) (pads : List P) : Type 0 where
+  pub record OwnNumbers (J : P → Type 0) (number : P → ℕ) (net : Net P) (pads : List P) : Type 0 where
     pub own : (p q : P) → J p → J q → number p ≡ number q → p ≡ q
     pub above : (p : P) → J p → 0 < number p
     pub ends : (l : P × P) → l ∈ net .links → J (l .0) × J (l .1)
@@ -121,10 +122,17 @@ module _ {P : Type 0} where
     pub padded : (p : P) → p ∈ pads → J p
 
   -- then the numbers computed from their joints are the net numbers of the pads
-  pub numbers-right : {J : P → Type 0} {number : P → ℕ} {net : Net P} {pads : List P} → Joints J number net pads → Numbered net pads (numbersOf (byNumber number net) (map number pads))
+  pub numbers-right : {J : P → Type 0} {number : P → ℕ} {net : Net P} {pads : List P} → OwnNumbers J number net pads → Numbered net pads (numbersOf (byNumber number net) (map number pads))
   unfolding numbersOf netOf
   numbers-right {J} {number} {net} {pads} h =
       let g : ℕ → ℕ = startOf (map number (net .powers)) in
       let start : Tells J (net .powers) [] (λ p. g (number p)) = start-tells number (map number (net .powers)) (h .own) (h .above) (h .powered) (λ p i. ∈-map number i) (λ n i. ∈-of-map number (net .powers) i) in
       subst (λ xs. Numbered net pads (numbering xs)) (maps-same _ (netOf (byNumber number net)) number (net-by-number number g (net .links)) pads)
       (numbered-by pads (h .padded) (tells-all (net .links) (h .ends) start))
+
+-- no net number is above the number of pads
+pub numbers-low : (net : Net ℕ) (pads : List ℕ) (i : ℕ) → getD (numbersOf net pads) i 0 ≤ length pads
+unfolding numbersOf
+numbers-low net pads i =
+    let xs = map (netOf net) pads in
+    omega (arith, order-low (numbering-order xs) i, numbering-each xs, length-map pads (netOf net))

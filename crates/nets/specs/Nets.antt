@@ -50,7 +50,12 @@ pub record Numbered {P : Type 0} (net : Net P) (pads : List P) (ns : List ℕ) :
   pub feds : {i : ℕ} {p : P} {n : ℕ} → At pads i p → At ns i n → (n ≡ 0) ↔ Fed net p
   pub order : InOrder 0 ns
 
--- of two rows of pads, place by place, the same pairs are on one net and the same pads are fed
+-- of one row of pads, the same pairs are on one net and the same pads are fed
+pub record SameOn {P : Type 0} (pads : List P) (net net′ : Net P) : Type 0 where
+  pub pairs : (p q : P) → p ∈ pads → q ∈ pads → OneNet net p q ↔ OneNet net′ p q
+  pub feds : (p : P) → p ∈ pads → Fed net p ↔ Fed net′ p
+
+-- the same of two rows, place by place
 pub record SameNets {P Q : Type 0} (net : Net P) (pads : List P) (net′ : Net Q) (pads′ : List Q) : Type 0 where
   pub pairs : {i j : ℕ} {p q : P} {p′ q′ : Q} → At pads i p → At pads′ i p′ → At pads j q → At pads′ j q′ → OneNet net p q ↔ OneNet net′ p′ q′
   pub feds : {i : ℕ} {p : P} {p′ : Q} → At pads i p → At pads′ i p′ → Fed net p ↔ Fed net′ p′
