@@ -10,6 +10,7 @@ pub mod Same
 pub mod Engine
 mod Tabulate
 mod Roots
+mod Flat
 mod Rooted
 mod Walks
 mod Ranks

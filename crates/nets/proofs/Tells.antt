@@ -12,6 +12,7 @@ use Rattle.lists.proofs.Lists.{in-cons}
 use Rattle.lists.proofs.Tests.{decide, eqb-reads, leb-reads}
 use Rattle.nets.specs.Nets.{Linked, forth, back, Chain, here, on, Fed, OneNet, by-chain, both-fed}
 use Rattle.nets.specs.Numbers.{merged, netFrom}
+use Rattle.nets.proofs.Places.{onto, onto-in, in-onto}
 use Rattle.nets.proofs.Chains.{netWith, net-back, net-then, net-fed, fed-more, net-more}
 
 module _ {P : Type 0} (J : P → Type 0) (powers : List P) where
@@ -94,25 +95,6 @@ module _ {P : Type 0} {J : P → Type 0} {powers : List P} {links : List (P × P
         one = ⊎-elim (λ e. one-more u v ju jv (sym (e .0)) (sym (e .1)) forward) (λ e. one-more v u jv ju (sym (e .0)) (sym (e .1)) backward) (larger (f u) (f v));
         fed = ⊎-elim (λ e. fed-too u v ju jv (sym (e .0)) (sym (e .1)) forward) (λ e. fed-too v u jv ju (sym (e .0)) (sym (e .1)) backward) (larger (f u) (f v));
       }
-
--- ---- for lists: one list, the last first, before another
-module _ {A : Type 0} where
-  onto : List A → List A → List A
-  onto [] ys = ys
-  onto (x ∷ xs) ys = onto xs (x ∷ ys)
-
-  onto-in : (xs ys : List A) {z : A} → z ∈ onto xs ys → (z ∈ xs) ⊎ (z ∈ ys)
-  unfolding onto
-  onto-in [] ys i = inr i
-  onto-in (x ∷ xs) ys {z} i = ⊎-elim (λ (j : z ∈ xs). inl (∈-tail j)) (in-cons (λ w. (w ∈ x ∷ xs) ⊎ (w ∈ ys)) (inl (∈-head refl)) (λ w j. inr j)) (onto-in xs (x ∷ ys) i)
-
-  in-onto : (xs : List A) {ys : List A} {z : A} → (z ∈ xs) ⊎ (z ∈ ys) → z ∈ onto xs ys
-  unfolding onto
-  in-onto [] (inl i) = absurd (∈-nil i)
-  in-onto [] (inr i) = i
-  in-onto (x ∷ xs) (inl (∈-head e)) = in-onto xs (inr (∈-head e))
-  in-onto (x ∷ xs) (inl (∈-tail i)) = in-onto xs (inl i)
-  in-onto (x ∷ xs) (inr i) = in-onto xs (inr (∈-tail i))
 
 -- ---- all the wires
 module _ {P : Type 0} {J : P → Type 0} {powers : List P} where

@@ -3,7 +3,7 @@ use Prim.Native.Nat.{_≤_, _-_}
 use native.Mathlib.Omega.{arith}
 use borrow.Author.Needs.{needs}
 use lib.ListN.{getD}
-use Rattle.nets.proofs.Roots.{Flattened, flat-start, flat-low, flat-next, flat-end}
+use Rattle.nets.proofs.Flat.{Flattened, flat-start, flat-low, flat-next, flat-end}
 use Rattle.nets.proofs.flatten.Statement.{statement}
 use Rattle.nets.proofs.flatten.Tie as tie
 
