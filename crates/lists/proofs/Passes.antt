@@ -5,11 +5,11 @@ use native.Mathlib.Numerals.{add-one}
 use native.Mathlib.Omega.{arith}
 use mathlib.Core.Path.{_≡_, refl, sym, ap, _∙_, subst}
 use mathlib.Core.List.{List, [], _∷_, _++_, append-nil}
-use mathlib.Core.Bool.{Bool, true, false, cond}
+use mathlib.Core.Bool.{Bool, true, false, _||_, cond, true≢false}
 use lib.ListN.{length, getD, take, drop, length-append, take-append-drop}
 use lib.Seq.{take-suc, take-take}
-use Rattle.lists.specs.Lists.{keep, gather}
-use Rattle.lists.proofs.Lists.{gather-append}
+use Rattle.lists.specs.Lists.{any, keep, gather}
+use Rattle.lists.proofs.Lists.{keep-append, gather-append}
 
 module _ {A : Type 0} where
   -- one row more
@@ -38,6 +38,15 @@ module _ {A : Type 0} where
       step : (b : Bool) → gather (only f) xs ≡ keep f xs → cond b (x ∷ []) [] ++ gather (only f) xs ≡ cond b (x ∷ keep f xs) (keep f xs)
       step true e = ap {B = List A} (λ l. x ∷ l) e
       step false e = e
+
+  pub keep-nothing : (f : A → Bool) (xs : List A) → any f xs ≡ false → keep f xs ≡ []
+  unfolding any keep
+  keep-nothing f [] e = refl
+  keep-nothing f (x ∷ xs) e = step (f x) (keep-nothing f xs) e
+    where
+      step : (b : Bool) → (any f xs ≡ false → keep f xs ≡ []) → (b || any f xs) ≡ false → cond b (x ∷ keep f xs) (keep f xs) ≡ []
+      step true ih e = absurd (true≢false e)
+      step false ih e = ih e
 
   -- ---- what a pass gathers
 
@@ -82,5 +91,21 @@ module _ {A B S : Type 0} where
     pub pass-skip : (d : A) → Pass H g l i s → g (getD l i d) ≡ [] → i < length l → Pass H g l (i + 1) s
     pass-skip d p e k = pass-next d p e (subst (λ (r : List B). H r s) (sym (append-nil (gather g (take i l)))) (p .so-far)) k
 
+    -- the row gives ys: what was gathered and ys together are no more than what n rows give
+    pub pass-room : {ys : List B} (n : ℕ) (d : A) → Pass H g l i s → g (getD l i d) ≡ ys → i < n → i < length l → length (gather g (take i l)) + length ys ≤ length (gather g (take n l))
+    pass-room n d p e h k = let size = ap length e in omega (arith, gather-room g l n i d h k)
+
     pub pass-end : (n : ℕ) → Pass H g l i s → i ≡ n → H (gather g (take n l)) s
     pass-end n p e = subst (λ (k : ℕ). H (gather g (take k l)) s) e (p .so-far)
+
+-- what is kept of all that is gathered
+pub gather-keep : {A B : Type 0} (f : B → Bool) (g : A → List B) (xs : List A) → gather (λ x. keep f (g x)) xs ≡ keep f (gather g xs)
+unfolding gather keep
+gather-keep f g [] = refl
+gather-keep {B = B} f g (x ∷ xs) = ap (λ (l : List B). keep f (g x) ++ l) (gather-keep f g xs) ∙ sym (keep-append f (g x) (gather g xs))
+
+-- each row as it is
+pub gather-each : {A : Type 0} (xs : List A) → gather (λ x. x ∷ []) xs ≡ xs
+unfolding gather
+gather-each [] = refl
+gather-each {A} (x ∷ xs) = ap {B = List A} (λ l. x ∷ l) (gather-each xs)
