@@ -10,7 +10,7 @@ use Rattle.lists.specs.Lists.{_∈_, any}
 use Rattle.lists.proofs.Lists.{any-reads}
 use Rattle.lists.proofs.Tests.{Reads, decide, choose, eqb-reads, reads-as}
 use Rattle.nets.specs.Nets.{Net, here, Fed, OneNet, by-chain, both-fed, Numbered}
-use Rattle.nets.specs.Numbers.{merged, netFrom, startOf, netOf, numbering, numbersOf}
+use Rattle.nets.specs.Numbers.{merged, netFrom, startOf, netOf, byNumber, numbering, numbersOf}
 use Rattle.nets.proofs.Places.{at-in, at-map}
 use Rattle.nets.proofs.Chains.{netWith}
 use Rattle.nets.proofs.Tells.{Tells, tells-all, tells-one, tells-fed}
@@ -90,10 +90,6 @@ module _ (net : Net ℕ) (ends : (l : ℕ × ℕ) → l ∈ net .links → (0 < 
 -- ---- points: the numbers of their joints give the numbers of their nets
 
 module _ {P : Type 0} where
-  -- a net by the numbers of its points
-  abbrev pub byNumber : (P → ℕ) → Net P → Net ℕ
-  byNumber number net = record { links = map (λ l. (number (l .0), number (l .1))) (net .links); powers = map number (net .powers) }
-
   net-by-number : (number : P → ℕ) (g : ℕ → ℕ) (ls : List (P × P)) (p : P) → netFrom (λ q. g (number q)) ls p ≡ netFrom g (map (λ l. (number (l .0), number (l .1))) ls) (number p)
   unfolding netFrom merged
   net-by-number number g [] p = refl

@@ -25,6 +25,10 @@ startOf powers n = cond (any (eqb n) powers) 0 n
 unfoldable pub netOf : Net ℕ → ℕ → ℕ
 netOf net n = netFrom (startOf (net .powers)) (net .links) n
 
+-- a net of points by the numbers of their joints
+abbrev pub byNumber : {P : Type 0} → (P → ℕ) → Net P → Net ℕ
+byNumber number net = record { links = map (λ l. (number (l .0), number (l .1))) (net .links); powers = map number (net .powers) }
+
 -- how many nets were met up to x, where the nets met stand with the last one first; 0 where x was not met
 unfoldable pub rank : ℕ → List ℕ → ℕ
 rank x [] = 0
