@@ -1,0 +1,44 @@
+//! The other side of a comparison: a program that reads a script and prints what panel_rows or panel_list prints.
+
+use crate::drawing::{run, Form};
+use crate::model::Model;
+use std::io::Write;
+use std::path::PathBuf;
+use std::process::{Command, Stdio};
+
+pub enum Program {
+    /// A program file, as `rt check` links it.
+    File(PathBuf),
+    /// The model in this crate.
+    Model,
+}
+
+impl Program {
+    pub fn output(&self, script: &[u8], form: Form) -> Result<Vec<u8>, String> {
+        match self {
+            Program::Model => Ok(run(&mut Model::default(), script, form)),
+            Program::File(path) => run_file(path, script),
+        }
+    }
+}
+
+fn run_file(path: &PathBuf, script: &[u8]) -> Result<Vec<u8>, String> {
+    let mut child = Command::new(path)
+        .stdin(Stdio::piped())
+        .stdout(Stdio::piped())
+        .spawn()
+        .map_err(|error| format!("{} does not start: {error}", path.display()))?;
+    let mut stdin = child.stdin.take().expect("standard input is a pipe");
+    let script = script.to_vec();
+    // A thread of its own, because a full output pipe would stop the program from reading on.
+    let writer = std::thread::spawn(move || stdin.write_all(&script));
+    let output = child.wait_with_output().map_err(|error| error.to_string())?;
+    writer
+        .join()
+        .expect("the writer does not panic")
+        .map_err(|error| format!("the script is not read to its end: {error}"))?;
+    if !output.status.success() {
+        return Err(format!("the program ends with {}", output.status));
+    }
+    Ok(output.stdout)
+}
