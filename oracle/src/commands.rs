@@ -23,9 +23,9 @@ oracle generate SEED       the script of a seed
 oracle symbols             turns, boxes and pads, in the form of panel_symbols
 oracle shapes              the bits of all shapes, in the form of panel_shapes
 oracle constants           the bits of the constants built with a square root
-oracle compare [PROGRAM] [--list] [--edits N] [--seed N]
-                           seeded scripts through the Rust in all orders and through the program (the model if none
-                           is named); --list for a program in the form of panel_list
+oracle compare [--list] [--edits N] [--seed N] [-- COMMAND]
+                           seeded scripts through the Rust in all orders and through a command that reads a script
+                           and prints as panel_rows does (as panel_list with --list), or the model if none is named
 ORDER: insertion (default), reverse, shuffled, middle";
 
 /// The exit status.
@@ -94,24 +94,8 @@ fn netlists(order: Order, script: &[u8]) -> Vec<u8> {
 }
 
 fn compare_by_words(words: &[&str]) -> i32 {
-    let (mut program, mut form, mut edits, mut seed) = (Program::Model, Form::Rows, 1_000_000, 1);
-    let mut rest = words.iter();
-    while let Some(&word) = rest.next() {
-        let mut number = || rest.next().and_then(|word| word.parse().ok());
-        match word {
-            "--list" => form = Form::List,
-            "--edits" => match number() {
-                Some(n) => edits = n,
-                None => return usage(),
-            },
-            "--seed" => match number() {
-                Some(n) => seed = n,
-                None => return usage(),
-            },
-            path => program = Program::File(path.into()),
-        }
-    }
-    let (counts, verdict) = compare(&program, form, seed, edits);
+    let Some(asked) = Asked::read(words) else { return usage() };
+    let (counts, verdict) = compare(&asked.program, asked.form, asked.seed, asked.edits);
     println!("{counts}");
     match verdict {
         Ok(()) => {
@@ -123,5 +107,30 @@ fn compare_by_words(words: &[&str]) -> i32 {
             write(&bytes_of(&difference.script));
             1
         }
+    }
+}
+
+/// What a comparison is asked to do.
+struct Asked {
+    program: Program,
+    form: Form,
+    edits: u64,
+    seed: u64,
+}
+
+impl Asked {
+    fn read(words: &[&str]) -> Option<Self> {
+        let mut asked = Asked { program: Program::Model, form: Form::Rows, edits: 1_000_000, seed: 1 };
+        let mut rest = words.iter();
+        while let Some(&word) = rest.next() {
+            match word {
+                "--list" => asked.form = Form::List,
+                "--edits" => asked.edits = rest.next()?.parse().ok()?,
+                "--seed" => asked.seed = rest.next()?.parse().ok()?,
+                "--" => asked.program = Program::Command(rest.by_ref().map(|word| word.to_string()).collect()),
+                _ => return None,
+            }
+        }
+        Some(asked)
     }
 }

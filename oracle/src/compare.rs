@@ -4,7 +4,7 @@ mod counts;
 
 pub use counts::Counts;
 
-use crate::drawing::{perform, run, Drawing, Form};
+use crate::drawing::{perform, run, Form};
 use crate::generate::{bytes_of, script, Script};
 use crate::minimise::minimise;
 use crate::netlist::{compare_nets, Agreement};
@@ -41,24 +41,29 @@ fn shrink(what: String, script: &[Vec<u8>], program: &Program, form: Form) -> Di
     let verdict = |lines: &[Vec<u8>]| judge(lines, program, form, &mut Counts::default());
     let script = minimise(script, |lines| verdict(lines).is_err());
     let smallest = verdict(&script).err().unwrap_or_default();
-    Difference { what: format!("{what}\nand in the script below: {smallest}"), script }
+    Difference { what: format!("{what}\nsmallest script found, {smallest}"), script }
 }
 
 /// Compares one script. Where tree order decides a turn, the line is left out of the script that the program and the
-/// Rust in three orders run; the Rust in the order of rows runs all lines.
+/// Rust in three orders run; the Rust in the order of rows runs all lines, and so does the program then.
 pub fn judge(script: &[Vec<u8>], program: &Program, form: Form, counts: &mut Counts) -> Result<(), String> {
     let (kept, expected) = in_three_orders(script, form, counts)?;
-    let kept = bytes_of(&kept);
-    same(&expected, &program.output(&kept, form)?)?;
-    let whole = bytes_of(script);
-    let in_row_order = run(&mut Original::new(Order::Middle), &whole, form);
-    if kept == whole {
-        same(&expected, &in_row_order).map_err(|what| format!("orders: {what}"))
+    same(&expected, &program.output(&sent(&kept), form)?)?;
+    let in_row_order = run(&mut Original::new(Order::Middle), &bytes_of(script), form);
+    if kept.len() == script.len() {
+        same(&expected, &in_row_order).map_err(|what| format!("insertion order and order of rows: {what}"))
     } else {
-        // A last line counts without its newline too.
-        let unclosed = whole.strip_suffix(b"\n").filter(|rest| !rest.ends_with(b"\n") && !rest.is_empty());
-        same(&in_row_order, &program.output(unclosed.unwrap_or(&whole), form)?)
+        same(&in_row_order, &program.output(&bytes_of(script), form)?)
     }
+}
+
+/// The bytes of a script. Every other one goes without its last newline, since its last line counts all the same.
+fn sent(script: &[Vec<u8>]) -> Vec<u8> {
+    let mut bytes = bytes_of(script);
+    if script.len() % 2 == 1 && script.last().is_some_and(|line| !line.is_empty()) {
+        bytes.pop();
+    }
+    bytes
 }
 
 /// Runs the Rust in three tree orders side by side. Gives the lines that were run and what each order printed.
@@ -85,7 +90,7 @@ fn in_three_orders(script: &[Vec<u8>], form: Form, counts: &mut Counts) -> Resul
         if command == Command::List {
             originals.iter().try_for_each(|original| check_nets(original, counts))?;
         }
-        counts.note(line, &first, &originals[0].rows());
+        counts.note(line, &first, originals[0].sizes());
         printed.extend(first);
         kept.push(line.clone());
     }

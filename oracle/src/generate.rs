@@ -3,7 +3,6 @@
 mod board;
 mod junk;
 
-use board::Board;
 use random::Random;
 
 /// The lines of a script without their newlines.
@@ -14,31 +13,44 @@ pub fn bytes_of(script: &[Vec<u8>]) -> Vec<u8> {
     script.iter().flat_map(|line| line.iter().copied().chain([b'\n'])).collect()
 }
 
-/// The script of this seed: a board by lot, then its lines.
+/// How many lines a script has at least. Long enough that starting a program for it costs little.
+const LINES: usize = 1500;
+/// One script in so many fills a drawing to its limits.
+const FULL_SHARE: u64 = 40;
+
+/// The script of this seed: boards by lot, each swept before the next, or one full board.
 pub fn script(seed: u64) -> Script {
     let mut random = Random(seed.wrapping_mul(0x2545_f491_4f6c_dd1d));
-    let board = board::by_lot(&mut random);
     let mut script = Vec::new();
-    for phase in &board.phases {
-        for _ in 0..phase.lines {
-            script.push(board.line(&phase.weights, &mut random));
+    while script.len() < LINES {
+        if seed % FULL_SHARE == 0 {
+            full_board(&mut script, &mut random);
+        } else {
+            small_board(&mut script, 250, &mut random);
         }
     }
     script
 }
 
-/// A script of about so many edits for a recorded sample: small boards, each swept empty before the next, so that the
-/// rows printed behind every edit stay few.
-pub fn sample(seed: u64, edits: usize) -> Script {
+/// A script of about so many lines for a recorded sample: short rounds, so that the rows behind every edit stay few.
+pub fn sample(seed: u64, lines: usize) -> Script {
     let mut random = Random(seed);
     let mut script = Vec::new();
-    while script.len() < edits {
-        let board = board::small(&mut random);
-        for _ in 0..60 {
-            script.push(board.line(&board::BALANCED, &mut random));
-        }
-        script.push(b"n".to_vec());
-        script.extend(Board::sweep());
+    while script.len() < lines {
+        small_board(&mut script, 50, &mut random);
     }
     script
+}
+
+fn small_board(script: &mut Script, lines: usize, random: &mut Random) {
+    let board = board::by_lot(random);
+    script.extend((0..lines).map(|_| board.line(&board.weights, random)));
+    script.extend(board::sweep());
+}
+
+fn full_board(script: &mut Script, random: &mut Random) {
+    let board = board::full();
+    for weights in board::filling(random) {
+        script.extend((0..500).map(|_| board.line(&weights, random)));
+    }
 }

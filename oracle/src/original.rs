@@ -22,6 +22,11 @@ impl Original {
         Original { state: State::default() }
     }
 
+    /// How many wires and components it holds.
+    pub fn sizes(&self) -> (usize, usize) {
+        (self.state.wires_iter(&everywhere()).count(), self.state.components_iter(everywhere()).count())
+    }
+
     /// Whether tree order decides what this turn loses: two contacts hit would touch each other once turned, and neither
     /// is lost anyhow to a component that stays.
     pub fn hangs_on_tree_order(&self, edit: &Edit) -> bool {
@@ -53,17 +58,16 @@ impl Drawing for Original {
         if let Some(reply) = refusal(edit) {
             return Answer::reply(reply);
         }
-        let mut after = self.state.round_trip();
-        let answer = edit_unlimited(&mut after, edit);
+        let mut after = Original { state: self.state.round_trip() };
+        let answer = edit_unlimited(&mut after.state, edit);
         if answer.reply != 0 {
             return answer;
         }
-        if after.wires_iter(&everywhere()).count() > MOST_WIRES
-            || after.components_iter(everywhere()).count() > MOST_COMPONENTS
-        {
+        let (wires, components) = after.sizes();
+        if wires > MOST_WIRES || components > MOST_COMPONENTS {
             return Answer::reply(7);
         }
-        self.state = after;
+        *self = after;
         answer
     }
 

@@ -3,12 +3,11 @@
 use crate::drawing::{run, Form};
 use crate::model::Model;
 use std::io::Write;
-use std::path::PathBuf;
 use std::process::{Command, Stdio};
 
 pub enum Program {
-    /// A program file, as `rt check` links it.
-    File(PathBuf),
+    /// The words of a command.
+    Command(Vec<String>),
     /// The model in this crate.
     Model,
 }
@@ -17,17 +16,19 @@ impl Program {
     pub fn output(&self, script: &[u8], form: Form) -> Result<Vec<u8>, String> {
         match self {
             Program::Model => Ok(run(&mut Model::default(), script, form)),
-            Program::File(path) => run_file(path, script),
+            Program::Command(words) => run_command(words, script),
         }
     }
 }
 
-fn run_file(path: &PathBuf, script: &[u8]) -> Result<Vec<u8>, String> {
-    let mut child = Command::new(path)
+fn run_command(words: &[String], script: &[u8]) -> Result<Vec<u8>, String> {
+    let [program, arguments @ ..] = words else { return Err("no program is named".into()) };
+    let mut child = Command::new(program)
+        .args(arguments)
         .stdin(Stdio::piped())
         .stdout(Stdio::piped())
         .spawn()
-        .map_err(|error| format!("{} does not start: {error}", path.display()))?;
+        .map_err(|error| format!("{program} does not start: {error}"))?;
     let mut stdin = child.stdin.take().expect("standard input is a pipe");
     let script = script.to_vec();
     // A thread of its own, because a full output pipe would stop the program from reading on.

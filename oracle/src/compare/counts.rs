@@ -1,6 +1,5 @@
 //! What a comparison went through, so that a reader can see that every kind of edit and reply was among it.
 
-use crate::rows::Rows;
 use std::collections::BTreeMap;
 use std::fmt;
 
@@ -22,10 +21,10 @@ pub struct Counts {
 }
 
 impl Counts {
-    /// Counts a line that was compared, by what was printed for it and the rows behind it.
-    pub fn note(&mut self, line: &[u8], printed: &[u8], rows: &Rows) {
-        self.most_wires = self.most_wires.max(rows.wires.len());
-        self.most_components = self.most_components.max(rows.components.len());
+    /// Counts a line that was compared, by what was printed for it and the wires and components behind it.
+    pub fn note(&mut self, line: &[u8], printed: &[u8], (wires, components): (usize, usize)) {
+        self.most_wires = self.most_wires.max(wires);
+        self.most_components = self.most_components.max(components);
         let first = printed.split(|&byte| byte == b'\n').next().unwrap_or_default();
         let words: Vec<_> = first.split(|&byte| byte == b' ').map(String::from_utf8_lossy).collect();
         let [letter, reply, turned @ ..] = &words[..] else { return };

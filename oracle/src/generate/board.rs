@@ -16,11 +16,6 @@ pub struct Weights {
     pub junk: usize,
 }
 
-pub struct Phase {
-    pub lines: usize,
-    pub weights: Weights,
-}
-
 pub struct Board {
     /// Coordinates of wires and of the pointer.
     points: Vec<i32>,
@@ -29,41 +24,37 @@ pub struct Board {
     sizes: Vec<i32>,
     /// The longest wire, in places of `points`.
     reach: usize,
-    pub phases: Vec<Phase>,
+    pub weights: Weights,
 }
 
-pub const BALANCED: Weights =
-    Weights { wire: 50, place: 18, delete: 12, turn: 6, mirror: 5, list: 3, beyond: 4, junk: 2 };
+const BALANCED: Weights = Weights { wire: 50, place: 18, delete: 12, turn: 6, mirror: 5, list: 3, beyond: 4, junk: 2 };
 const FILL_WIRES: Weights = Weights { wire: 90, place: 1, delete: 0, turn: 1, mirror: 1, list: 1, beyond: 1, junk: 1 };
 const FILL_COMPONENTS: Weights =
     Weights { wire: 3, place: 90, delete: 0, turn: 2, mirror: 1, list: 1, beyond: 1, junk: 1 };
+/// Contacts side by side: turned ones meet others and each other.
+const CROWDED: Weights = Weights { wire: 25, place: 40, delete: 5, turn: 14, mirror: 10, list: 2, beyond: 2, junk: 2 };
 /// On a full board: little is deleted, so that most edits stand at the limit.
 const AT_THE_BRIM: Weights =
     Weights { wire: 45, place: 20, delete: 5, turn: 14, mirror: 8, list: 3, beyond: 1, junk: 1 };
 
 pub fn by_lot(random: &mut Random) -> Board {
-    match random.below(40) {
-        0..=9 => coarse(4),
-        10..=17 => quarters(),
-        18..=23 => close_calls(),
-        24..=29 => edges(),
-        30..=37 => coarse(12),
-        38 => full(&[FILL_WIRES, FILL_COMPONENTS, AT_THE_BRIM]),
-        _ => full(&[FILL_COMPONENTS, FILL_WIRES, AT_THE_BRIM]),
+    match random.below(8) {
+        0 | 1 => coarse(4),
+        2 => coarse(8),
+        3 => quarters(),
+        4 | 5 => crowd(),
+        6 => close_calls(),
+        _ => edges(),
     }
 }
 
-pub fn small(random: &mut Random) -> Board {
-    match random.below(4) {
-        0 => quarters(),
-        1 => close_calls(),
-        2 => edges(),
-        _ => coarse(4),
+/// The three phases of a full board: one table first, then the other, then edits at the limit.
+pub fn filling(random: &mut Random) -> [Weights; 3] {
+    if random.percent(50) {
+        [FILL_WIRES, FILL_COMPONENTS, AT_THE_BRIM]
+    } else {
+        [FILL_COMPONENTS, FILL_WIRES, AT_THE_BRIM]
     }
-}
-
-fn balanced(lines: usize) -> Vec<Phase> {
-    vec![Phase { lines, weights: BALANCED }]
 }
 
 fn multiples(of: i32, most: i32) -> Vec<i32> {
@@ -77,7 +68,7 @@ fn coarse(most: i32) -> Board {
         positions: multiples(50, most),
         sizes: vec![0, 0, 5, 12, 25, 49, 50, 51, 100, 12 * most],
         reach: usize::MAX,
-        phases: balanced(300),
+        weights: BALANCED,
     }
 }
 
@@ -87,7 +78,17 @@ fn quarters() -> Board {
         positions: multiples(25, 8),
         sizes: vec![0, 0, 6, 12, 25, 26, 50, 75],
         reach: usize::MAX,
-        phases: balanced(300),
+        weights: BALANCED,
+    }
+}
+
+fn crowd() -> Board {
+    Board {
+        points: multiples(50, 10),
+        positions: multiples(50, 10),
+        sizes: vec![0, 25, 50, 75, 100],
+        reach: 8,
+        weights: CROWDED,
     }
 }
 
@@ -99,7 +100,7 @@ fn close_calls() -> Board {
         positions: near(&[-200, -100, 0, 100, 200]),
         sizes: vec![0, 0, 1, 2, 48, 49, 50, 51],
         reach: 6,
-        phases: balanced(300),
+        weights: BALANCED,
     }
 }
 
@@ -111,18 +112,18 @@ fn edges() -> Board {
         positions: both(&[5800, 5800, 5799, 5750, 5700, 5699, 5650]),
         sizes: vec![0, 0, 1, 50, 100, 200, 999, 1000],
         reach: usize::MAX,
-        phases: balanced(300),
+        weights: BALANCED,
     }
 }
 
 /// Room for more wires and components than a drawing may hold; contacts far enough apart to turn without loss.
-fn full(phases: &[Weights; 3]) -> Board {
+pub fn full() -> Board {
     Board {
         points: multiples(50, 36),
         positions: multiples(300, 6),
         sizes: vec![0, 0, 0, 5, 10, 25, 300, 1000],
         reach: 12,
-        phases: phases.iter().map(|&weights| Phase { lines: 500, weights }).collect(),
+        weights: AT_THE_BRIM,
     }
 }
 
@@ -178,14 +179,17 @@ impl Board {
         format!("p {kind} {orient} {x} {y}{label}")
     }
 
+    /// Turns look for contacts where contacts are, and now and then for several.
     fn pointer(&self, letter: char, random: &mut Random) -> String {
-        let (x, y) = (random.pick(&self.points), random.pick(&self.points));
-        format!("{letter} {x} {y} {}", random.pick(&self.sizes))
+        let places = if letter == 'd' { &self.points } else { &self.positions };
+        let larger = if letter == 'd' { 1 } else { random.pick(&[1, 1, 4]) };
+        let (x, y) = (random.pick(places), random.pick(places));
+        format!("{letter} {x} {y} {}", (larger * random.pick(&self.sizes)).min(1000))
     }
+}
 
-    /// Deletes everything that a small board may hold.
-    pub fn sweep() -> Vec<Vec<u8>> {
-        let corners = [-6000, 6000].map(|x| [-6000, 6000].map(|y| format!("d {x} {y} 1000")));
-        corners.into_iter().flatten().chain(["d 0 0 1000".to_string()]).map(String::into_bytes).collect()
-    }
+/// Deletes that leave a board other than the full one empty.
+pub fn sweep() -> Vec<Vec<u8>> {
+    let corners = [-6000, 6000].map(|x| [-6000, 6000].map(|y| format!("d {x} {y} 1000")));
+    corners.into_iter().flatten().chain(["d 0 0 1000".to_string()]).map(String::into_bytes).collect()
 }
