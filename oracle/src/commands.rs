@@ -7,12 +7,14 @@ use crate::model::Model;
 use crate::netlist::print_netlist;
 use crate::original::Original;
 use crate::program::Program;
+use crate::sample::write_sample;
 use crate::script::{lines, read_line, Command};
 use crate::shapes::{constants, shapes};
 use crate::symbols::symbols;
 use random::Random;
 use rstar::Order;
 use std::io::{Read, Write};
+use std::path::Path;
 
 const USAGE: &str = "\
 oracle rows [ORDER]        the Rust's output for a script on standard input, in the form of panel_rows
@@ -20,6 +22,8 @@ oracle list [ORDER]        the same in the form of panel_list
 oracle netlist [ORDER]     at each n the Rust's own netlist
 oracle model               panel_rows by the model instead of the Rust
 oracle generate SEED       the script of a seed
+oracle sample rows DIR     writes DIR/stdin, a script of 2,000 lines, and DIR/stdout, what panel_rows must print for it
+oracle sample list DIR     the same for panel_list, with full tables
 oracle symbols             turns, boxes and pads, in the form of panel_symbols
 oracle shapes              the bits of all shapes, in the form of panel_shapes
 oracle constants           the bits of the constants built with a square root
@@ -41,6 +45,8 @@ pub fn main(arguments: &[String]) -> i32 {
         ["netlist", ref rest @ ..] => with_order(rest, |order| write(&netlists(order, &input()))),
         ["model"] => write(&run(&mut Model::default(), &input(), Form::Rows)),
         ["generate", seed] => seed.parse().ok().and_then(|seed| write(&bytes_of(&script(seed)))),
+        ["sample", "rows", folder] => sample(Form::Rows, folder),
+        ["sample", "list", folder] => sample(Form::List, folder),
         ["symbols"] => write(symbols().as_bytes()),
         ["shapes"] => write(shapes().as_bytes()),
         ["constants"] => write(constants().as_bytes()),
@@ -91,6 +97,10 @@ fn netlists(order: Order, script: &[u8]) -> Vec<u8> {
         }
     }
     out
+}
+
+fn sample(form: Form, folder: &str) -> Option<()> {
+    write_sample(form, Path::new(folder)).map_err(|what| eprintln!("{what}")).ok()
 }
 
 fn compare_by_words(words: &[&str]) -> i32 {

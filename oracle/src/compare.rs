@@ -67,7 +67,7 @@ fn sent(script: &[Vec<u8>]) -> Vec<u8> {
 }
 
 /// Runs the Rust in three tree orders side by side. Gives the lines that were run and what each order printed.
-fn in_three_orders(script: &[Vec<u8>], form: Form, counts: &mut Counts) -> Result<(Script, Vec<u8>), String> {
+pub fn in_three_orders(script: &[Vec<u8>], form: Form, counts: &mut Counts) -> Result<(Script, Vec<u8>), String> {
     let orders = [Order::Insertion, Order::Reverse, Order::Shuffled(Random(script.len() as u64))];
     let mut originals = orders.map(Original::new);
     let mut kept = Vec::new();

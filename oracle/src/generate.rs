@@ -42,6 +42,13 @@ pub fn sample(seed: u64, lines: usize) -> Script {
     script
 }
 
+/// A script that fills a drawing to its limits.
+pub fn full_sample(seed: u64) -> Script {
+    let mut script = Vec::new();
+    full_board(&mut script, &mut Random(seed));
+    script
+}
+
 fn small_board(script: &mut Script, lines: usize, random: &mut Random) {
     let board = board::by_lot(random);
     script.extend((0..lines).map(|_| board.line(&board.weights, random)));

@@ -16,6 +16,7 @@ pub mod original;
 pub mod program;
 pub mod refusal;
 pub mod rows;
+pub mod sample;
 pub mod script;
 pub mod shapes;
 pub mod symbols;

@@ -1,15 +1,20 @@
 //! The smallest script that still shows a difference: lines are dropped, many at a time and then one by one.
 
+/// A script that needs hundreds of its lines would be tried for hours otherwise.
+const MOST_TRIES: usize = 300;
+
 /// Drops lines as long as the rest still fails.
 pub fn minimise<T: Clone>(lines: &[T], fails: impl Fn(&[T]) -> bool) -> Vec<T> {
     let mut left = lines.to_vec();
     let mut chunk = left.len().div_ceil(2);
-    while chunk > 0 {
+    let mut tries = 0;
+    while chunk > 0 && tries < MOST_TRIES {
         let before = left.len();
         let mut at = 0;
-        while at < left.len() {
+        while at < left.len() && tries < MOST_TRIES {
             let mut without = left.clone();
             without.drain(at..(at + chunk).min(left.len()));
+            tries += 1;
             if fails(&without) {
                 left = without;
             } else {

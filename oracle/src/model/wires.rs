@@ -8,7 +8,7 @@ pub fn ends(wire: &Wire) -> [Point; 2] {
     [point_of(wire, wire.start), point_of(wire, wire.end)]
 }
 
-fn point_of(wire: &Wire, along: i32) -> Point {
+pub fn point_of(wire: &Wire, along: i32) -> Point {
     if wire.vertical {
         (along, wire.line)
     } else {
