@@ -1,6 +1,6 @@
 //! The command line.
 
-use crate::compare::compare;
+use crate::compare::{compare, in_three_orders, Counts};
 use crate::drawing::{run, Drawing, Form};
 use crate::generate::{bytes_of, script};
 use crate::model::Model;
@@ -22,6 +22,7 @@ oracle list [ORDER]        the same in the form of panel_list
 oracle netlist [ORDER]     at each n the Rust's own netlist
 oracle model               panel_rows by the model instead of the Rust
 oracle generate SEED       the script of a seed
+oracle filter              the script on standard input without the turns that tree order decides
 oracle sample rows DIR     writes DIR/stdin, a script of 2,000 lines, and DIR/stdout, what panel_rows must print for it
 oracle sample list DIR     the same for panel_list, with full tables
 oracle symbols             turns, boxes and pads, in the form of panel_symbols
@@ -45,6 +46,7 @@ pub fn main(arguments: &[String]) -> i32 {
         ["netlist", ref rest @ ..] => with_order(rest, |order| write(&netlists(order, &input()))),
         ["model"] => write(&run(&mut Model::default(), &input(), Form::Rows)),
         ["generate", seed] => seed.parse().ok().and_then(|seed| write(&bytes_of(&script(seed)))),
+        ["filter"] => filter(&input()),
         ["sample", "rows", folder] => sample(Form::Rows, folder),
         ["sample", "list", folder] => sample(Form::List, folder),
         ["symbols"] => write(symbols().as_bytes()),
@@ -97,6 +99,12 @@ fn netlists(order: Order, script: &[u8]) -> Vec<u8> {
         }
     }
     out
+}
+
+fn filter(script: &[u8]) -> Option<()> {
+    let script: Vec<_> = lines(script).map(<[u8]>::to_vec).collect();
+    let kept = in_three_orders(&script, Form::List, &mut Counts::default());
+    kept.map_err(|what| eprintln!("{what}")).ok().and_then(|(kept, _)| write(&bytes_of(&kept)))
 }
 
 fn sample(form: Form, folder: &str) -> Option<()> {

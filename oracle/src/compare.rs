@@ -48,12 +48,12 @@ fn shrink(what: String, script: &[Vec<u8>], program: &Program, form: Form) -> Di
 /// Rust in three orders run; the Rust in the order of rows runs all lines, and so does the program then.
 pub fn judge(script: &[Vec<u8>], program: &Program, form: Form, counts: &mut Counts) -> Result<(), String> {
     let (kept, expected) = in_three_orders(script, form, counts)?;
-    same(&expected, &program.output(&sent(&kept), form)?)?;
+    same(&expected, &program.output(&sent(&kept), form)?, form)?;
     let in_row_order = run(&mut Original::new(Order::Middle), &bytes_of(script), form);
     if kept.len() == script.len() {
-        same(&expected, &in_row_order).map_err(|what| format!("insertion order and order of rows: {what}"))
+        same(&expected, &in_row_order, form).map_err(|what| format!("insertion order and order of rows: {what}"))
     } else {
-        same(&in_row_order, &program.output(&bytes_of(script), form)?)
+        same(&in_row_order, &program.output(&bytes_of(script), form)?, form)
     }
 }
 
@@ -68,7 +68,8 @@ fn sent(script: &[Vec<u8>]) -> Vec<u8> {
 
 /// Runs the Rust in three tree orders side by side. Gives the lines that were run and what each order printed.
 pub fn in_three_orders(script: &[Vec<u8>], form: Form, counts: &mut Counts) -> Result<(Script, Vec<u8>), String> {
-    let orders = [Order::Insertion, Order::Reverse, Order::Shuffled(Random(script.len() as u64))];
+    let seed = bytes_of(script).iter().fold(0u64, |seed, &byte| seed.wrapping_mul(31).wrapping_add(byte.into()));
+    let orders = [Order::Insertion, Order::Reverse, Order::Shuffled(Random(seed))];
     let mut originals = orders.map(Original::new);
     let mut kept = Vec::new();
     let mut printed = Vec::new();
@@ -85,8 +86,9 @@ pub fn in_three_orders(script: &[Vec<u8>], form: Form, counts: &mut Counts) -> R
             perform(original, &command, form, &mut out);
             out
         });
-        same(&first, &second).map_err(|what| format!("insertion and reverse order: {what}"))?;
-        same(&first, &third).map_err(|what| format!("insertion and shuffled order: {what}"))?;
+        let here = |other, what| format!("insertion and {other} order differ at line {}, {what}", kept.len() + 1);
+        same(&first, &second, form).map_err(|what| here("reverse", what))?;
+        same(&first, &third, form).map_err(|what| here("shuffled", what))?;
         if command == Command::List {
             originals.iter().try_for_each(|original| check_nets(original, counts))?;
         }
@@ -106,16 +108,20 @@ fn check_nets(original: &Original, counts: &mut Counts) -> Result<(), String> {
     Ok(())
 }
 
-/// Nothing, or the first line that differs.
-fn same(expected: &[u8], found: &[u8]) -> Result<(), String> {
+/// Nothing, or the first line that differs, and to which line of the script it belongs.
+fn same(expected: &[u8], found: &[u8], form: Form) -> Result<(), String> {
     if expected == found {
         return Ok(());
     }
     let (expected, found) = (text_lines(expected), text_lines(found));
     let same = expected.iter().zip(&found).take_while(|(one, other)| one == other).count();
-    let dumps = expected[..same].iter().filter(|line| *line == ".").count();
+    let last_of_its_line = |line: &&String| match form {
+        Form::Rows => *line == ".",
+        Form::List => line.starts_with("A ") || line.starts_with("E "),
+    };
+    let script_line = expected[..same].iter().filter(last_of_its_line).count() + 1;
     let at = |lines: &[String]| lines.get(same).cloned().unwrap_or("the end".into());
-    Err(format!("script line {}: expected `{}`, found `{}`", dumps + 1, at(&expected), at(&found)))
+    Err(format!("script line {script_line}: expected `{}`, found `{}`", at(&expected), at(&found)))
 }
 
 fn text_lines(bytes: &[u8]) -> Vec<String> {

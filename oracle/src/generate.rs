@@ -23,7 +23,7 @@ pub fn script(seed: u64) -> Script {
     let mut random = Random(seed.wrapping_mul(0x2545_f491_4f6c_dd1d));
     let mut script = Vec::new();
     while script.len() < LINES {
-        if seed % FULL_SHARE == 0 {
+        if seed.is_multiple_of(FULL_SHARE) {
             full_board(&mut script, &mut random);
         } else {
             small_board(&mut script, 250, &mut random);

@@ -80,8 +80,9 @@ impl Drawing for Original {
     }
 }
 
-/// The Rust's edit; 6 where it turns a component down.
-fn edit_unlimited(state: &mut State, edit: &Edit) -> Answer {
+/// The Rust's edit with no refusal before it and no copy: what a timing of the Rust times. 6 where it turns a component
+/// down.
+pub fn edit_unlimited(state: &mut State, edit: &Edit) -> Answer {
     match *edit {
         Edit::Wire { vertical: false, line, start, end } => state.add_wire(WireH { y: line, x1: start, x2: end }),
         Edit::Wire { vertical: true, line, start, end } => state.add_wire(WireV { x: line, y1: start, y2: end }),

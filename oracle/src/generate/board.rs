@@ -154,8 +154,7 @@ impl Board {
     fn plain(&self, random: &mut Random) -> String {
         match random.below(5) {
             0 => self.place(random),
-            1 => self.pointer('d', random),
-            2 => self.pointer('r', random),
+            1 | 2 => self.pointer(random.pick(&['d', 'r', 'm']), random),
             _ => self.wire(random),
         }
     }
