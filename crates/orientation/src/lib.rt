@@ -34,7 +34,8 @@ const REFUSED: Turned = Turned {
     turn: RotMirror(0, 0, 0, 0),
 };
 
-fn same(o: RotMirror, p: RotMirror) -> bool
+// Whether two are the same four numbers.
+pub fn same(o: RotMirror, p: RotMirror) -> bool
     ensures { λ r. ⌜ r ≡ sameOf o p ⌝ }
 {
     (o.0 == p.0) & ((o.1 == p.1) & ((o.2 == p.2) & (o.3 == p.3)))
