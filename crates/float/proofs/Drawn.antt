@@ -1,0 +1,164 @@
+-- A drawn coordinate is the exact sum, rounded once: the products by 0, 1 and -1 and their sum are exact. So it is close.
+use mathlib.Core.Path.{_≡_, refl, sym, ap, _∙_, subst}
+use Prim.Native.Nat.{ℕ, zero, suc, _+_, _-_, _*_, _^_, _≤_, _<_}
+use native.Mathlib.Nat.{le-refl, le-trans, le-of-eq, lt-of-le-of-lt, mul-assoc, mul-comm, mul-one, mul-le-mul-right}
+use native.Mathlib.Omega.{arith}
+use mathlib.Core.Bool.{Bool, true, false, _&&_}
+use lib.IntN.{ℤ, pos, negsuc, negℤ, natAbs, subℕ, _+ℤ_, _*ℤ_, zero-*ℤ}
+use lib.Dec.{T, leb, ltb, ltb→lt, leb→le, lit≤, lit<}
+use lib.Pow.{pow-add, pow-pos}
+use lib.Ieee.{Float, nan, inf, fin, binary32, up, down, round, ofInt}
+use lib.Ieee.Fits.{and-l, and-r}
+use lib.Ieee.Exact.{HasValue, round-exact}
+use Rattle.float.specs.Drawn.{drawnOf, Row, plus-x, minus-x, plus-y, minus-y}
+use Rattle.float.specs.Close.{unit, signed, scale, whole-units, tame, exact, sumOf, near, negative-zero, Close}
+use Rattle.edge.proofs.Whole.{sub-pos, sub-neg, by-order, same-diff, add-sub, neg-sub, one-times, minus-times, row-plus-left, row-minus-left, row-plus-right, row-minus-right, pos-sub, neg-sub-suc, size-neg, size-sub}
+use Rattle.float.proofs.Rounded.{plus-sub, minus-sub, signed-size, rounded, rounded-near, rounded-whole}
+use Rattle.float.proofs.Values.{Has, Held, add-has, mul-has, add-position}
+
+-- ---- the format holds Z units, of which there are at most 256
+
+pub record Good (Z : ℤ) : Type 0 where
+  pub held : Held Z
+  pub small : natAbs Z ≤ 256 * unit
+
+good-zero : Good (pos 0)
+unfolding round
+good-zero = record { held = λ s. (refl, refl); small = lit≤ tt }
+
+good-neg : (Z : ℤ) → Good Z → Good (negℤ Z)
+good-neg Z g = record {
+  held = λ s. rw (size-neg Z) (g .held s);
+  small = rw (size-neg Z) (g .small);
+}
+
+-- m · 2 ^ j units, with m of 24 digits
+good-at : (s : Bool) (m j : ℕ) → m < 2 ^ 24 → m * 2 ^ j ≤ 256 * unit → Good (signed s (m * 2 ^ j))
+good-at s m j h l = record {
+  held = λ t. rw (signed-size s (m * 2 ^ j))
+      (round-exact binary32 t (m * 2 ^ j) unit m (j + 125) (pow-pos 24) h
+      (lt-of-le-of-lt (le-trans (le-of-eq shift) (mul-le-mul-right (2 ^ 125) l)) (lit< tt))
+      (sym (mul-assoc (m * 2 ^ j) (2 ^ 125) unit) ∙ ap (λ (x : ℕ). x * unit) (sym shift)));
+  small = rw (signed-size s (m * 2 ^ j)) l;
+}
+  where
+    shift : m * 2 ^ (j + 125) ≡ m * 2 ^ j * 2 ^ 125
+    shift = ap (λ (x : ℕ). m * x) (pow-add 2 j 125) ∙ sym (mul-assoc m (2 ^ j) (2 ^ 125))
+
+-- a number of a symbol
+pub record Number (x : Float) : Type 0 where
+  pub has : Has x (exact x)
+  pub good : Good (exact x)
+
+in-units : (m : ℕ) (e : ℤ) → T (whole-units e) → m * up e * unit ≡ m * 2 ^ scale e * down e
+in-units m (pos k) h = mul-assoc m (2 ^ k) unit ∙ ap (λ (x : ℕ). m * x) (mul-comm (2 ^ k) unit ∙ sym (pow-add 2 24 k)) ∙ sym (mul-one (m * 2 ^ (24 + k)))
+in-units m (negsuc k) h =
+    ap (λ (x : ℕ). x * unit) (mul-one m)
+    ∙ ap (λ (x : ℕ). m * x) (ap (λ (x : ℕ). 2 ^ x) (sym (split (ltb→lt k 24 h))) ∙ pow-add 2 (23 - k) (suc k))
+    ∙ sym (mul-assoc m (2 ^ (23 - k)) (2 ^ suc k))
+  where
+    split : k < 24 → 23 - k + suc k ≡ 24
+    split h = omega arith
+
+pub number : (x : Float) → T (tame x) → Number x
+unfolding tame exact
+number nan h = absurd h
+number (inf r) h = absurd h
+number (fin r m e) h =
+    let a = and-l (ltb m (2 ^ 24) && whole-units e) (leb (m * 2 ^ scale e) (256 * unit)) h in
+    let w = and-r (ltb m (2 ^ 24)) (whole-units e) a in
+    record {
+      has = record { sign = r; size = m * 2 ^ scale e; value = (refl, in-units m e w); is = refl };
+      good = good-at r m (scale e) (ltb→lt m (2 ^ 24) (and-l (ltb m (2 ^ 24)) (whole-units e) a))
+          (leb→le (m * 2 ^ scale e) (256 * unit) (and-r (ltb m (2 ^ 24) && whole-units e) (leb (m * 2 ^ scale e) (256 * unit)) h));
+    }
+
+-- ---- a row: both products and their sum
+
+pub record Products (a b X Y : ℤ) : Type 0 where
+  pub a-small : natAbs a ≤ 2 ^ 24
+  pub b-small : natAbs b ≤ 2 ^ 24
+  pub left : Good (a *ℤ X)
+  pub right : Good (b *ℤ Y)
+  pub both : Good (a *ℤ X +ℤ b *ℤ Y)
+
+products : {a b : ℤ} (X Y : ℤ) → Row a b → Good X → Good Y → Products a b X Y
+products X Y plus-x g h = record { a-small = lit≤ tt; b-small = lit≤ tt; left = rw (one-times X) g; right = rw (zero-*ℤ Y) good-zero; both = rw (row-plus-left X Y) g }
+products X Y minus-x g h = record { a-small = lit≤ tt; b-small = lit≤ tt; left = rw (minus-times X) (good-neg X g); right = rw (zero-*ℤ Y) good-zero; both = rw (row-minus-left X Y) (good-neg X g) }
+products X Y plus-y g h = record { a-small = lit≤ tt; b-small = lit≤ tt; left = rw (zero-*ℤ X) good-zero; right = rw (one-times Y) h; both = rw (row-plus-right X Y) h }
+products X Y minus-y g h = record { a-small = lit≤ tt; b-small = lit≤ tt; left = rw (zero-*ℤ X) good-zero; right = rw (minus-times Y) (good-neg Y h); both = rw (row-minus-right X Y) (good-neg Y h) }
+
+-- ---- sizes
+
+size-add : (z w : ℤ) → natAbs (z +ℤ w) ≤ natAbs z + natAbs w
+size-add (pos a) (pos b) = le-refl (a + b)
+size-add (pos a) (negsuc b) = size-sub a (suc b) (a + suc b) (omega arith) (omega arith)
+size-add (negsuc a) (pos b) = size-sub b (suc a) (suc a + b) (omega arith) (omega arith)
+size-add (negsuc a) (negsuc b) = omega arith
+
+size-units : (p : ℤ) → natAbs (p *ℤ pos unit) ≡ natAbs p * unit
+size-units (pos n) = refl
+size-units (negsuc n) = signed-size true (suc n * unit)
+
+sum-small : (Z p : ℤ) → natAbs Z ≤ 256 * unit → natAbs p ≤ 6000 → natAbs (Z +ℤ p *ℤ pos unit) < 2 ^ 37
+sum-small Z p h k = omega (arith, size-add Z (p *ℤ pos unit), size-units p)
+
+-- ---- a whole number of units: unit times goes over sums and minus
+
+times-unit : (m n : ℕ) → subℕ m n *ℤ pos unit ≡ subℕ (m * unit) (n * unit)
+times-unit m n = by-order (subℕ m n *ℤ pos unit ≡ subℕ (m * unit) (n * unit)) m n
+    (λ h. rw (sub-neg m n h) (minus-sub (suc (n - suc m) * unit) ∙ same-diff 0 (suc (n - suc m) * unit) (m * unit) (n * unit) (omega arith)))
+    (λ h. rw (sub-pos m n h) (plus-sub ((m - n) * unit) ∙ same-diff ((m - n) * unit) 0 (m * unit) (n * unit) (omega arith)))
+
+by-sub : (P : ℤ → Type 0) → ((m n : ℕ) → P (subℕ m n)) → (z : ℤ) → P z
+by-sub P f (pos n) = subst P (sym (pos-sub n)) (f n 0)
+by-sub P f (negsuc n) = subst P (sym (neg-sub-suc n)) (f 0 (suc n))
+
+abbrev units : ℤ → ℤ
+units z = z *ℤ pos unit
+
+units-neg : (z : ℤ) → negℤ (units z) ≡ units (negℤ z)
+units-neg = by-sub (λ z. negℤ (units z) ≡ units (negℤ z)) (λ m n. ap negℤ (times-unit m n) ∙ neg-sub (m * unit) (n * unit) ∙ sym (ap units (neg-sub m n) ∙ times-unit n m))
+
+units-add : (z w : ℤ) → units z +ℤ units w ≡ units (z +ℤ w)
+units-add z w = by-sub (λ z. units z +ℤ units w ≡ units (z +ℤ w)) (λ m n. by-sub (λ w. units (subℕ m n) +ℤ units w ≡ units (subℕ m n +ℤ w)) (at m n) w) z
+  where
+    at : (m n p q : ℕ) → units (subℕ m n) +ℤ units (subℕ p q) ≡ units (subℕ m n +ℤ subℕ p q)
+    at m n p q =
+        (λ i. times-unit m n i +ℤ times-unit p q i)
+        ∙ add-sub (m * unit) (n * unit) (p * unit) (q * unit)
+        ∙ same-diff (m * unit + p * unit) (n * unit + q * unit) ((m + p) * unit) ((n + q) * unit) (omega arith)
+        ∙ sym (ap units (add-sub m n p q) ∙ times-unit (m + p) (n + q))
+
+units-row : {a b : ℤ} (m n : ℤ) → Row a b → a *ℤ units m +ℤ b *ℤ units n ≡ units (a *ℤ m +ℤ b *ℤ n)
+units-row m n plus-x = row-plus-left (units m) (units n) ∙ sym (ap units (row-plus-left m n))
+units-row m n minus-x = row-minus-left (units m) (units n) ∙ units-neg m ∙ sym (ap units (row-minus-left m n))
+units-row m n plus-y = row-plus-right (units m) (units n) ∙ sym (ap units (row-plus-right m n))
+units-row m n minus-y = row-minus-right (units m) (units n) ∙ units-neg n ∙ sym (ap units (row-minus-right m n))
+
+-- ---- the law
+
+module _ {a b : ℤ} (x y : Float) (p : ℤ) (r : Row a b) (hx : T (tame x)) (hy : T (tame y)) (hp : natAbs p ≤ 6000) where
+  X : Number x
+  X = number x hx
+
+  Y : Number y
+  Y = number y hy
+
+  P : Products a b (exact x) (exact y)
+  P = products (exact x) (exact y) r (X .good) (Y .good)
+
+  wide : natAbs p ≤ 2 ^ 24
+  wide = omega arith
+
+  drawn-rounded : drawnOf a b x y p ≡ rounded (sumOf a b x y p)
+  drawn-rounded = add-position p wide (add-has (mul-has a (P .a-small) (X .has) (P .left .held)) (mul-has b (P .b-small) (Y .has) (P .right .held)) (P .both .held))
+
+  pub drawn-close : Close a b x y p (drawnOf a b x y p)
+  drawn-close =
+      let n = rounded-near (sumOf a b x y p) (sum-small (a *ℤ exact x +ℤ b *ℤ exact y) p (P .both .small) hp) in
+      record {
+        at-most = rw drawn-rounded (n .0);
+        whole = λ m k e f. drawn-rounded ∙ ap rounded ((λ i. a *ℤ e i +ℤ b *ℤ f i +ℤ units p) ∙ (λ i. units-row m k r i +ℤ units p) ∙ units-add (a *ℤ m +ℤ b *ℤ k) p) ∙ rounded-whole (a *ℤ m +ℤ b *ℤ k +ℤ p);
+        no-negative-zero = rw drawn-rounded (n .1);
+      }

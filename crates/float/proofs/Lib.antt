@@ -1,0 +1,4 @@
+pub mod Nearness
+pub mod Rounded
+pub mod Values
+pub mod Drawn
