@@ -3,7 +3,7 @@ use mathlib.Core.Path.{_≡_, refl, sym, ap, _∙_, subst}
 use Prim.Native.Nat.{ℕ, zero, suc, _+_, _-_, _*_, _^_, _≤_, _<_}
 use native.Mathlib.Nat.{le-refl, le-trans, le-of-eq, lt-of-le-of-lt, mul-assoc, mul-comm, mul-one, mul-le-mul-right}
 use native.Mathlib.Omega.{arith}
-use mathlib.Core.Bool.{Bool, true, false, _&&_}
+use mathlib.Core.Bool.{Bool, true, false, not, _&&_}
 use lib.IntN.{ℤ, pos, negsuc, negℤ, natAbs, subℕ, _+ℤ_, _*ℤ_, zero-*ℤ}
 use lib.Dec.{T, leb, ltb, ltb→lt, leb→le, lit≤, lit<}
 use lib.Pow.{pow-add, pow-pos}
@@ -162,3 +162,7 @@ module _ {a b : ℤ} (x y : Float) (p : ℤ) (r : Row a b) (hx : T (tame x)) (hy
         whole = λ m k e f. drawn-rounded ∙ ap rounded ((λ i. a *ℤ e i +ℤ b *ℤ f i +ℤ units p) ∙ (λ i. units-row m k r i +ℤ units p) ∙ units-add (a *ℤ m +ℤ b *ℤ k) p) ∙ rounded-whole (a *ℤ m +ℤ b *ℤ k +ℤ p);
         no-negative-zero = rw drawn-rounded (n .1);
       }
+
+-- a coordinate that is only a position, of a wire or a joint: the whole number itself
+pub whole-close : (z : ℤ) → natAbs z ≤ 6000 → T (near (ofInt binary32 z) (z *ℤ pos unit)) × T (not (negative-zero (ofInt binary32 z)))
+whole-close z h = subst (λ (f : Float). T (near f (units z)) × T (not (negative-zero f))) (rounded-whole z) (rounded-near (units z) (omega (arith, size-units z)))

@@ -1,0 +1,4 @@
+pub mod Answers
+pub mod Symbols
+pub mod Shapes
+pub mod Bound
