@@ -5,9 +5,9 @@ use native.Mathlib.Omega.{arith}
 use mathlib.Core.List.{List, [], _∷_}
 use lib.Ieee.{Float}
 use Rattle.cad.specs.Answers.{answered, drawn, no-shape, refused}
-use Rattle.cad.specs.Symbols.{at}
-use Rattle.cad.specs.declared.Draw.{Draw}
-use Rattle.cad.specs.declared.Draw.the-variants.{Line, Circle}
+use Rattle.draw.specs.Symbols.{at}
+use Rattle.draw.specs.declared.Draw.{Draw}
+use Rattle.draw.specs.declared.Draw.the-variants.{Line, Circle}
 use Rattle.cad.specs.declared.Shape.{Shape}
 use Rattle.cad.specs.declared.Shape.the-variants.{Drawn, NoShape, Outside, Reversed, Unknown, Mislabelled}
 

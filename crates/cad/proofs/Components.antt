@@ -15,10 +15,12 @@ use Rattle.label.specs.Labels.{heldLabel}
 use Rattle.label.specs.declared.Label.{Label}
 use Rattle.label.specs.declared.Held.{Held}
 use Rattle.cad.specs.Answers.{Answer, drawn, no-shape, refused}
-use Rattle.cad.specs.Symbols.{countOf, drawsOf}
-use Rattle.cad.specs.Shapes.{within, transformOf, asked, componentShape}
-use Rattle.cad.specs.declared.Draw.{Draw}
-use Rattle.cad.proofs.Tables.{asked-at, asked-past, count-is}
+use Rattle.draw.specs.Symbols.{countOf, drawsOf}
+use Rattle.draw.specs.Transforms.{transformOf}
+use Rattle.cad.specs.Shapes.{within, asked, componentShape}
+use Rattle.draw.specs.declared.Draw.{Draw}
+use Rattle.draw.proofs.Tables.{count-is}
+use Rattle.cad.proofs.Asked.{asked-at, asked-past}
 use Rattle.cad.proofs.Places.{In}
 
 module _ (kind : ℕ) (o : RotMirror) (x y : ℤ) (label : Label) (i : ℕ) (a b : Bool) where

@@ -8,10 +8,10 @@ use lib.Signed.{ltZ}
 use borrow.Author.Tests.{le-leb, lt-leb, eq-eqb, ne-eqb}
 use Rattle.edge.specs.Coordinates.{coordOf}
 use Rattle.cad.specs.Answers.{Answer, drawn, no-shape, refused}
-use Rattle.cad.specs.Symbols.{whole}
+use Rattle.draw.specs.Symbols.{whole}
 use Rattle.cad.specs.Shapes.{within, pointOf, wireShape, junctionShape}
-use Rattle.cad.specs.declared.Vector2.{Vector2}
-use Rattle.cad.specs.declared.Draw.the-variants.{Line, Circle}
+use Rattle.draw.specs.declared.Vector2.{Vector2}
+use Rattle.draw.specs.declared.Draw.the-variants.{Line, Circle}
 use Rattle.cad.proofs.Places.{In}
 
 module _ (vertical : Bool) (line start end : ℤ) where

@@ -1,12 +1,10 @@
 -- What the answer of `place` or `place_component` tells of a coordinate z, which is handed over as bits.
 use mathlib.Core.Path.{_≡_, refl, sym, ap, _∙_}
-use Prim.Native.Nat.{ℕ, suc, _-_, _^_, _≤_, _<_}
+use Prim.Native.Nat.{ℕ, _≤_}
 use native.Mathlib.Omega.{arith}
 use mathlib.Core.Bool.{Bool, true, false, cond}
-use lib.Dec.{T, leb, le→leb, lt→ltb}
 use lib.IntN.{ℤ, natAbs}
 use lib.Signed.{ltZ}
-use lib.Ieee.{binary32, inFloat}
 use mir.Syntax.{w32}
 use mir.Val.{SFits, toZ, ofZ}
 use mir.Facts.{toZ-ofZ}
@@ -15,7 +13,6 @@ use Rattle.edge.specs.Coordinates.{coordOf, biased, placeOf}
 use Rattle.edge.specs.declared.Placed.{Placed}
 use Rattle.edge.specs.declared.Placed.the-variants.{Inside, Outside}
 use Rattle.edge.proofs.Places.{back}
-use Rattle.edge.proofs.Whole.{sub-pos, sub-neg, by-order}
 use Rattle.cad.specs.Shapes.{within}
 
 -- a row's number that is z within its limit
@@ -46,10 +43,3 @@ module _ (limit : ℕ) (z : ℤ) (f : SFits w32 z) {r : Placed} (e : r ≡ place
 -- two coordinates that are compared
 pub compared : (z w : ℤ) {t : Bool} → SFits w32 z → SFits w32 w → ltZ (toZ w32 (ofZ w32 z)) (toZ w32 (ofZ w32 w)) ≡ t → ltZ z w ≡ t
 compared z w f g e = sym (λ i. ltZ (toZ-ofZ {w = w32} {z = z} f i) (toZ-ofZ {w = w32} {z = w} g i)) ∙ e
-
--- a row's number is one that a float holds
-pub held : (n : ℕ) → n < 2 ^ 16 → T (inFloat binary32 (coordOf n))
-unfolding inFloat
-held n h = by-order (T (inFloat binary32 (coordOf n))) n 6000
-    (λ l. rw (sub-neg n 6000 l) (lt→ltb (6000 - suc n) (2 ^ 24) (omega arith)))
-    (λ l. rw (sub-pos n 6000 l) (le→leb (n - 6000) (2 ^ 24) (omega arith)))

@@ -3,9 +3,9 @@
 use Prim.Native.Nat.{ℕ, zero, suc}
 use mathlib.Core.List.{List, [], _∷_}
 use lib.Ieee.{Float}
-use Rattle.cad.specs.declared.Vector2.{Vector2}
-use Rattle.cad.specs.declared.Draw.{Draw}
-use Rattle.cad.specs.declared.Draw.the-variants.{Line, Circle}
+use Rattle.draw.specs.declared.Vector2.{Vector2}
+use Rattle.draw.specs.declared.Draw.{Draw}
+use Rattle.draw.specs.declared.Draw.the-variants.{Line, Circle}
 use Rattle.cad.specs.declared.Shape.{Shape}
 use Rattle.cad.specs.declared.Shape.the-variants.{Drawn, NoShape, Outside, Reversed, Unknown, Mislabelled}
 

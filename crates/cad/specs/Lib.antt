@@ -1,4 +1,2 @@
 pub mod Answers
-pub mod Symbols
 pub mod Shapes
-pub mod Bound

@@ -1,26 +1,13 @@
-// The shapes of symbols, wires and joints, as they are drawn.
+// The answers to a call for a shape: of a component, a wire or a joint.
 ghost use mathlib.Core.Path.{_≡_};
-ghost use lib.Ieee.{binary32, ofInt};
 ghost use Rattle.edge.specs.Coordinates.{coordOf};
 ghost use Rattle.cad.specs.Answers.{answered};
-ghost use Rattle.cad.specs.Shapes.{movedOf, transformOf, pointOf, componentShape, wireShape, junctionShape};
+ghost use Rattle.cad.specs.Shapes.{pointOf, componentShape, wireShape, junctionShape};
+use draw::Draw;
+use draw::Vector2;
 use edge::Placed;
 use label::Label;
 use orientation::RotMirror;
-
-mod symbols;
-
-// A point of a shape.
-pub struct Vector2 {
-    pub x: f32,
-    pub y: f32,
-}
-
-// A line (two points, width) or a circle (centre, radius, width).
-pub enum Draw {
-    Line(Vector2, Vector2, f32),
-    Circle(Vector2, f32, f32),
-}
 
 // The answer to a call for a shape: the shape, no shape, or a refusal.
 pub enum Shape {
@@ -34,37 +21,6 @@ pub enum Shape {
     Unknown,
     // A label too long or with another byte.
     Mislabelled,
-}
-
-// A row's number as a float, exactly its coordinate.
-fn as_f32(n: u16) -> f32
-    ensures { λ r. ⌜ r ≡ ofInt binary32 (coordOf n) ⌝ }
-{
-    edge::coordinate(n) as f32
-}
-
-// A point, turned by o and moved: a * x + b * y, then + the position, each operation rounded.
-fn moved(p: Vector2, o: RotMirror, x: u16, y: u16) -> Vector2
-    ensures { λ r. ⌜ r ≡ movedOf o (coordOf x) (coordOf y) p ⌝ }
-{
-    let tx = as_f32(x);
-    let ty = as_f32(y);
-    Vector2 {
-        x: o.0 as f32 * p.x + o.1 as f32 * p.y + tx,
-        y: o.2 as f32 * p.x + o.3 as f32 * p.y + ty,
-    }
-}
-
-impl Draw {
-    // The shape, turned by o and moved to the position (x, y), as rows hold it. Radius and width don't change.
-    pub fn transform(self, o: RotMirror, x: u16, y: u16) -> Draw
-        ensures { λ r. ⌜ r ≡ transformOf o (coordOf x) (coordOf y) self ⌝ }
-    {
-        match self {
-            Draw::Line(p, q, width) => Draw::Line(moved(p, o, x, y), moved(q, o, x, y), width),
-            Draw::Circle(p, radius, width) => Draw::Circle(moved(p, o, x, y), radius, width),
-        }
-    }
 }
 
 // Shape i of a component, by the order of symbol.rs. a and b are a contact's A and B, and a is a coil's state.
@@ -96,10 +52,10 @@ pub fn component(
     if held.reply != 0 {
         return Shape::Mislabelled;
     }
-    if symbols::count(kind) <= i {
+    if draw::count(kind) <= i {
         return Shape::NoShape;
     }
-    let d = symbols::draw(kind, i, a, b);
+    let d = draw::shape(kind, i, a, b);
     Shape::Drawn(d.transform(o, px, py))
 }
 
@@ -107,8 +63,8 @@ pub fn component(
 fn point(vertical: bool, line: u16, n: u16) -> Vector2
     ensures { λ r. ⌜ r ≡ pointOf vertical (coordOf line) (coordOf n) ⌝ }
 {
-    let l = as_f32(line);
-    let m = as_f32(n);
+    let l = draw::as_f32(line);
+    let m = draw::as_f32(n);
     if vertical {
         return Vector2 { x: l, y: m };
     }

@@ -1,8 +1,8 @@
 // Prints the bits of shapes: at each of 600 positions a line of checksums over every shape there, and at two of them every shape in full.
 // `stdout` is what the Rust prints.
 ghost use Prim.Native.Nat.{_<_};
-use cad::Draw;
 use cad::Shape;
+use draw::Draw;
 use label::Label;
 use libc::STDOUT_FILENO;
 

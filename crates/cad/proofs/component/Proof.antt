@@ -64,8 +64,8 @@ returns-6 c =
     let Y = inside 5800 (s .args .y) (s .fits .y) (c .before .before .before .before .before .before .before .before .place-component2 .ensures) (lit≤ tt) (c .before .before .before .before .before .before .py .given .1) in
     past (s .args .kind) (s .args .o) (s .args .x) (s .args .y) (s .args .label) (s .args .i) (s .args .a) (s .args .b) (c .before .before .before .before .before .before .before .before .before .before .before .before .before .before .before .if1 .left) (c .before .before .before .before .before .before .before .before .before .before .before .before .before .before .is-known .ensures) (c .before .before .before .before .before .before .before .before .before .before .before .before .before .if2 .left) X Y (c .before .before .before .before .held-label .ensures) (c .before .before .if3 .left) (c .before .count .ensures) (c .if4 .taken)
 
-draw-requires : tie.Need-draw-requires
-draw-requires c κs = search needs
+shape-requires : tie.Need-shape-requires
+shape-requires c κs = search needs
 
 transform-requires : tie.Need-transform-requires
 transform-requires c κs = search needs
@@ -75,7 +75,7 @@ returns-7 c =
     let s = c .before .before .before .before .before .before .before .before .before .before .before .before .before .before .before .before .before .before in
     let X = inside 5800 (s .args .x) (s .fits .x) (c .before .before .before .before .before .before .before .before .before .before .before .before .before .before .place-component .ensures) (lit≤ tt) (c .before .before .before .before .before .before .before .before .before .before .before .before .px .given .1) in
     let Y = inside 5800 (s .args .y) (s .fits .y) (c .before .before .before .before .before .before .before .before .before .before .place-component2 .ensures) (lit≤ tt) (c .before .before .before .before .before .before .before .before .py .given .1) in
-    shown (s .args .kind) (s .args .o) (s .args .x) (s .args .y) (s .args .label) (s .args .i) (s .args .a) (s .args .b) (c .before .before .before .before .before .before .before .before .before .before .before .before .before .before .before .before .before .if1 .left) (c .before .before .before .before .before .before .before .before .before .before .before .before .before .before .before .before .is-known .ensures) (c .before .before .before .before .before .before .before .before .before .before .before .before .before .before .before .if2 .left) X Y (c .before .before .before .before .before .before .held-label .ensures) (c .before .before .before .before .if3 .left) (c .before .before .before .count .ensures) (c .before .before .if4 .left) (c .before .draw .ensures) (c .transform .ensures)
+    shown (s .args .kind) (s .args .o) (s .args .x) (s .args .y) (s .args .label) (s .args .i) (s .args .a) (s .args .b) (c .before .before .before .before .before .before .before .before .before .before .before .before .before .before .before .before .before .if1 .left) (c .before .before .before .before .before .before .before .before .before .before .before .before .before .before .before .before .is-known .ensures) (c .before .before .before .before .before .before .before .before .before .before .before .before .before .before .before .if2 .left) X Y (c .before .before .before .before .before .before .held-label .ensures) (c .before .before .before .before .if3 .left) (c .before .before .before .count .ensures) (c .before .before .if4 .left) (c .before .shape .ensures) (c .transform .ensures)
 
 pub component-spec : {M : Type 1} → statement M
 component-spec =
@@ -96,6 +96,6 @@ component-spec =
     returns-5
     count-requires
     returns-6
-    draw-requires
+    shape-requires
     transform-requires
     returns-7)

@@ -4,7 +4,7 @@ use mathlib.Core.Path.{_∙_, sym}
 use mathlib.Core.Bool.{cond}
 use lib.Ieee.{binary32, ofInt}
 use Rattle.edge.specs.Coordinates.{coordOf}
-use Rattle.cad.specs.Symbols.{at}
+use Rattle.draw.specs.Symbols.{at}
 use Rattle.cad.proofs.point.Statement.{statement}
 use Rattle.cad.proofs.point.Tie as tie
 

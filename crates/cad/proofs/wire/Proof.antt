@@ -2,7 +2,7 @@
 use borrow.Author.Needs.{needs}
 use lib.Dec.{lit≤}
 use lib.Ieee.{ofBits, ofInt}
-use Rattle.cad.specs.Symbols.{whole}
+use Rattle.draw.specs.Symbols.{whole}
 use Rattle.cad.proofs.Places.{outside, inside, compared}
 use Rattle.cad.proofs.Marks.{bad-line, bad-start, bad-end, backward, forward}
 use Rattle.cad.proofs.wire.Statement.{statement}

@@ -1,10 +1,10 @@
 -- The table is the list of the definition, number by number, which antt computes; its last shape is what `moving_contact` ensures.
 use borrow.Author.Needs.{needs}
 use lib.Ieee.{neg, ofBits, ofInt}
-use Rattle.cad.specs.Symbols.{contactStatic, whole, minus, bits}
-use Rattle.cad.proofs.Tables.{present-last}
-use Rattle.cad.proofs.symbols.contact.Statement.{statement}
-use Rattle.cad.proofs.symbols.contact.Tie as tie
+use Rattle.draw.specs.Symbols.{contactStatic, whole, minus, bits}
+use Rattle.draw.proofs.Tables.{present-last}
+use Rattle.draw.proofs.symbols.contact.Statement.{statement}
+use Rattle.draw.proofs.symbols.contact.Tie as tie
 
 moving-contact-requires : tie.Need-moving-contact-requires
 moving-contact-requires c κs = search needs

@@ -1,10 +1,10 @@
 -- The table is the list of the definition, number by number, which antt computes.
 use borrow.Author.Needs.{needs}
 use lib.Ieee.{neg, ofBits, ofInt}
-use Rattle.cad.specs.Symbols.{powerDraws, whole, minus, bits}
-use Rattle.cad.proofs.Tables.{present}
-use Rattle.cad.proofs.symbols.power.Statement.{statement}
-use Rattle.cad.proofs.symbols.power.Tie as tie
+use Rattle.draw.specs.Symbols.{powerDraws, whole, minus, bits}
+use Rattle.draw.proofs.Tables.{present}
+use Rattle.draw.proofs.symbols.power.Statement.{statement}
+use Rattle.draw.proofs.symbols.power.Tie as tie
 
 mul-result : tie.Need-mul-result
 mul-result c = search needs

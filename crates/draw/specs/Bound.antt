@@ -3,9 +3,9 @@ use lib.IntN.{ℤ}
 use lib.Ieee.{Float}
 use Rattle.orientation.specs.declared.RotMirror.{RotMirror}
 use Rattle.float.specs.Close.{Close}
-use Rattle.cad.specs.declared.Vector2.{Vector2}
-use Rattle.cad.specs.declared.Draw.{Draw}
-use Rattle.cad.specs.declared.Draw.the-variants.{Line, Circle}
+use Rattle.draw.specs.declared.Vector2.{Vector2}
+use Rattle.draw.specs.declared.Draw.{Draw}
+use Rattle.draw.specs.declared.Draw.the-variants.{Line, Circle}
 
 -- p, turned by o and moved to (x, y), is drawn at r
 pub record ClosePoint (o : RotMirror) (x y : ℤ) (p r : Vector2) : Type 0 where

@@ -2,7 +2,7 @@
 ghost use mathlib.Core.Path.{_≡_};
 ghost use Prim.Native.Nat.{_<_};
 ghost use lib.ListN.{getD};
-ghost use Rattle.cad.specs.Symbols.{powerDraws, movingContact, contactDraws, innerCircle, coilDraws, countOf, drawsOf};
+ghost use Rattle.draw.specs.Symbols.{powerDraws, movingContact, contactDraws, innerCircle, coilDraws, countOf, drawsOf};
 use super::Draw;
 use super::Vector2;
 
@@ -128,7 +128,7 @@ pub fn count(kind: u8) -> usize
 }
 
 // Shape i of a kind: 0 Power, 1 Contact, else Coil.
-pub fn draw(kind: u8, i: usize, a: bool, b: bool) -> Draw
+pub fn shape(kind: u8, i: usize, a: bool, b: bool) -> Draw
     requires { ⌜ i < countOf kind ⌝ }
     ensures { λ r. ⌜ r ≡ getD (drawsOf kind a b) i r ⌝ }
 {

@@ -5,10 +5,10 @@ use native.Mathlib.Omega.{arith}
 use mathlib.Core.Bool.{Bool}
 use mathlib.Core.List.{List}
 use lib.ListN.{getD}
-use Rattle.cad.specs.Symbols.{countOf, coilDraws, drawsOf}
-use Rattle.cad.specs.declared.Draw.{Draw}
-use Rattle.cad.proofs.symbols.draw.Statement.{statement}
-use Rattle.cad.proofs.symbols.draw.Tie as tie
+use Rattle.draw.specs.Symbols.{countOf, coilDraws, drawsOf}
+use Rattle.draw.specs.declared.Draw.{Draw}
+use Rattle.draw.proofs.symbols.shape.Statement.{statement}
+use Rattle.draw.proofs.symbols.shape.Tie as tie
 
 at-most : (k : ℕ) {i : ℕ} → i < countOf k → i < 7
 at-most zero h = omega arith
@@ -40,6 +40,6 @@ returns-2 c = c .contact .ensures ∙ sym (λ j. getD (drawsOf (c .before .match
 returns-3 : tie.Need-returns-3
 returns-3 c = let s = c .before .before in c .coil .ensures ∙ ap (λ (ds : List Draw). getD ds (s .args .i) (c .coil .result)) (sym (rest (s .args .kind) (s .args .a) (s .args .b) (c .before .match .rest .0 .1) (c .before .match .rest .1)))
 
-pub draw-spec : {M : Type 1} → statement M
-draw-spec =
+pub shape-spec : {M : Type 1} → statement M
+shape-spec =
     tie.close (tie.spec power-requires contact-requires coil-requires returns returns-2 returns-3)

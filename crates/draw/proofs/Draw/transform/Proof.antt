@@ -2,10 +2,10 @@
 use borrow.Author.Needs.{needs}
 use mathlib.Core.Path.{_≡_, sym, ap, _∙_}
 use Rattle.edge.specs.Coordinates.{coordOf}
-use Rattle.cad.specs.Shapes.{transformOf}
-use Rattle.cad.specs.declared.Draw.the-variants.{Line, Circle}
-use Rattle.cad.proofs.Draw.transform.Statement.{statement}
-use Rattle.cad.proofs.Draw.transform.Tie as tie
+use Rattle.draw.specs.Transforms.{transformOf}
+use Rattle.draw.specs.declared.Draw.the-variants.{Line, Circle}
+use Rattle.draw.proofs.Draw.transform.Statement.{statement}
+use Rattle.draw.proofs.Draw.transform.Tie as tie
 
 enum-known-self : tie.Need-enum-known-self
 enum-known-self c = search needs

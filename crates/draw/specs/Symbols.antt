@@ -4,9 +4,9 @@ use mathlib.Core.Bool.{Bool, cond, Bool·beq}
 use mathlib.Core.List.{List, [], _∷_, _++_}
 use lib.IntN.{pos, negℤ}
 use lib.Ieee.{Float, binary32, ofBits, ofInt}
-use Rattle.cad.specs.declared.Vector2.{Vector2}
-use Rattle.cad.specs.declared.Draw.{Draw}
-use Rattle.cad.specs.declared.Draw.the-variants.{Line, Circle}
+use Rattle.draw.specs.declared.Vector2.{Vector2}
+use Rattle.draw.specs.declared.Draw.{Draw}
+use Rattle.draw.specs.declared.Draw.the-variants.{Line, Circle}
 
 unfoldable pub whole : ℕ → Float
 whole n = ofInt binary32 (pos n)

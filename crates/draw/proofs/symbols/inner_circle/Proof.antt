@@ -1,8 +1,8 @@
 -- Each way out is the circle of the definition.
 use lib.Ieee.{ofBits, ofInt}
-use Rattle.cad.specs.Symbols.{innerCircle, whole}
-use Rattle.cad.proofs.symbols.inner_circle.Statement.{statement}
-use Rattle.cad.proofs.symbols.inner_circle.Tie as tie
+use Rattle.draw.specs.Symbols.{innerCircle, whole}
+use Rattle.draw.proofs.symbols.inner_circle.Statement.{statement}
+use Rattle.draw.proofs.symbols.inner_circle.Tie as tie
 
 returns : tie.Need-returns
 unfolding innerCircle whole ofBits ofInt

@@ -1,8 +1,8 @@
 -- Each way out is the line of the definition, number by number, which antt computes.
 use lib.Ieee.{neg, ofBits, ofInt}
-use Rattle.cad.specs.Symbols.{movingContact, whole, bits}
-use Rattle.cad.proofs.symbols.moving_contact.Statement.{statement}
-use Rattle.cad.proofs.symbols.moving_contact.Tie as tie
+use Rattle.draw.specs.Symbols.{movingContact, whole, bits}
+use Rattle.draw.proofs.symbols.moving_contact.Statement.{statement}
+use Rattle.draw.proofs.symbols.moving_contact.Tie as tie
 
 returns : tie.Need-returns
 unfolding movingContact whole bits neg ofBits ofInt

@@ -2,9 +2,9 @@
 use borrow.Author.Needs.{needs}
 use mathlib.Core.Path.{_≡_, refl}
 use Prim.Native.Nat.{ℕ, zero, suc}
-use Rattle.cad.specs.Symbols.{countOf}
-use Rattle.cad.proofs.symbols.count.Statement.{statement}
-use Rattle.cad.proofs.symbols.count.Tie as tie
+use Rattle.draw.specs.Symbols.{countOf}
+use Rattle.draw.proofs.symbols.count.Statement.{statement}
+use Rattle.draw.proofs.symbols.count.Tie as tie
 
 other : (k : ℕ) → (k ≡ 0 → ⊥) → 7 ≡ countOf k
 other zero f = absurd (f refl)

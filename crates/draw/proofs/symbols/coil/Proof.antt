@@ -1,10 +1,10 @@
 -- The table is the list of the definition, number by number, which antt computes; its last shape is what `inner_circle` ensures.
 use borrow.Author.Needs.{needs}
 use lib.Ieee.{neg, ofBits, ofInt}
-use Rattle.cad.specs.Symbols.{coilStatic, whole, minus, bits}
-use Rattle.cad.proofs.Tables.{present-last}
-use Rattle.cad.proofs.symbols.coil.Statement.{statement}
-use Rattle.cad.proofs.symbols.coil.Tie as tie
+use Rattle.draw.specs.Symbols.{coilStatic, whole, minus, bits}
+use Rattle.draw.proofs.Tables.{present-last}
+use Rattle.draw.proofs.symbols.coil.Statement.{statement}
+use Rattle.draw.proofs.symbols.coil.Tie as tie
 
 inner-circle-requires : tie.Need-inner-circle-requires
 inner-circle-requires c κs = search needs

@@ -1,16 +1,25 @@
 -- The coordinate comes out of its bits as it was, and a float holds it.
 use borrow.Author.Needs.{needs}
 use mathlib.Core.Path.{_≡_, sym, ap, _∙_, subst}
-use lib.Dec.{T}
+use Prim.Native.Nat.{ℕ, suc, _-_, _^_, _<_}
+use native.Mathlib.Omega.{arith}
+use lib.Dec.{T, le→leb, lt→ltb}
 use lib.IntN.{ℤ}
 use lib.Ieee.{binary32, ofInt, inFloat}
 use mir.Syntax.{w32}
 use mir.Val.{toZ, ofZ}
 use mir.Facts.{toZ-ofZ}
 use Rattle.edge.specs.Coordinates.{coordOf}
-use Rattle.cad.proofs.Places.{held}
-use Rattle.cad.proofs.as_f32.Statement.{statement}
-use Rattle.cad.proofs.as_f32.Tie as tie
+use Rattle.edge.proofs.Whole.{sub-pos, sub-neg, by-order}
+use Rattle.draw.proofs.as_f32.Statement.{statement}
+use Rattle.draw.proofs.as_f32.Tie as tie
+
+-- a row's number is one that a float holds
+held : (n : ℕ) → n < 2 ^ 16 → T (inFloat binary32 (coordOf n))
+unfolding inFloat
+held n h = by-order (T (inFloat binary32 (coordOf n))) n 6000
+    (λ l. rw (sub-neg n 6000 l) (lt→ltb (6000 - suc n) (2 ^ 24) (omega arith)))
+    (λ l. rw (sub-pos n 6000 l) (le→leb (n - 6000) (2 ^ 24) (omega arith)))
 
 coordinate-requires : tie.Need-coordinate-requires
 coordinate-requires c κs = search needs
