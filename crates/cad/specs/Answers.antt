@@ -1,9 +1,8 @@
 -- The answer to a call for a shape, as document 01 tells it: a number and values.
 -- "For an answer that is an enum, a definition provides this paper's number and values for each of the enum's cases. The promises use this definition."
-use Prim.Native.Nat.{ℕ, zero, suc}
+use Prim.Native.Nat.{ℕ}
 use mathlib.Core.List.{List, [], _∷_}
 use lib.Ieee.{Float}
-use Rattle.draw.specs.declared.Vector2.{Vector2}
 use Rattle.draw.specs.declared.Draw.{Draw}
 use Rattle.draw.specs.declared.Draw.the-variants.{Line, Circle}
 use Rattle.cad.specs.declared.Shape.{Shape}

@@ -2,7 +2,7 @@
 use Prim.Native.Nat.{ℕ, zero, suc, _≤_}
 use native.Mathlib.Omega.{arith}
 use mathlib.Core.Bool.{Bool, true, false, _&&_}
-use lib.Dec.{T, leb→le}
+use lib.Dec.{T}
 use lib.IntN.{ℤ, natAbs}
 use lib.Ieee.{ofInt, ofBits}
 use Rattle.lists.specs.Lists.{_∈_, all}

@@ -1,20 +1,23 @@
 -- A drawn coordinate is the exact sum, rounded once: the products by 0, 1 and -1 and their sum are exact. So it is close.
 use mathlib.Core.Path.{_≡_, refl, sym, ap, _∙_, subst}
-use Prim.Native.Nat.{ℕ, zero, suc, _+_, _-_, _*_, _^_, _≤_, _<_}
-use native.Mathlib.Nat.{le-refl, le-trans, le-of-eq, lt-of-le-of-lt, mul-assoc, mul-comm, mul-one, mul-le-mul-right}
+use Prim.Native.Nat.{ℕ, suc, _+_, _-_, _*_, _^_, _≤_, _<_}
+use native.Mathlib.Nat.{le-trans, le-of-eq, lt-of-le-of-lt, mul-assoc, mul-comm, mul-one, mul-le-mul-right}
 use native.Mathlib.Omega.{arith}
-use mathlib.Core.Bool.{Bool, true, false, not, _&&_}
-use lib.IntN.{ℤ, pos, negsuc, negℤ, natAbs, subℕ, _+ℤ_, _*ℤ_, zero-*ℤ}
+use mathlib.Core.Bool.{Bool, not, _&&_}
+use lib.IntN.{ℤ, pos, negsuc, negℤ, natAbs, _+ℤ_, _*ℤ_, zero-*ℤ}
 use lib.Dec.{T, leb, ltb, ltb→lt, leb→le, lit≤, lit<}
 use lib.Pow.{pow-add, pow-pos}
 use lib.Ieee.{Float, nan, inf, fin, binary32, up, down, round, ofInt}
-use lib.Ieee.Fits.{and-l, and-r}
-use lib.Ieee.Exact.{HasValue, round-exact}
+use lib.Ieee.Exact.{round-exact}
+use Rattle.lists.proofs.Tests.{both-l, both-r}
+use Rattle.edge.proofs.Whole.{one-times, minus-times, row-plus-left, row-minus-left, row-plus-right, row-minus-right, size-neg}
 use Rattle.float.specs.Drawn.{drawnOf, Row, plus-x, minus-x, plus-y, minus-y}
 use Rattle.float.specs.Close.{unit, signed, scale, whole-units, tame, exact, sumOf, near, negative-zero, Close}
-use Rattle.edge.proofs.Whole.{sub-pos, sub-neg, by-order, same-diff, add-sub, neg-sub, one-times, minus-times, row-plus-left, row-minus-left, row-plus-right, row-minus-right, pos-sub, neg-sub-suc, size-neg, size-sub}
-use Rattle.float.proofs.Rounded.{plus-sub, minus-sub, signed-size, rounded, rounded-near, rounded-whole}
-use Rattle.float.proofs.Values.{Has, Held, add-has, mul-has, add-position}
+use Rattle.float.proofs.Signed.{signed-size}
+use Rattle.float.proofs.Rounded.{rounded, rounded-near, rounded-whole}
+use Rattle.float.proofs.Sums.{Has, Held, add-has}
+use Rattle.float.proofs.Products.{mul-has, add-position}
+use Rattle.float.proofs.Units.{units, units-add, units-row, size-units, sum-small}
 
 -- ---- the format holds Z units, of which there are at most 256
 
@@ -65,12 +68,12 @@ unfolding tame exact
 number nan h = absurd h
 number (inf r) h = absurd h
 number (fin r m e) h =
-    let a = and-l (ltb m (2 ^ 24) && whole-units e) (leb (m * 2 ^ scale e) (256 * unit)) h in
-    let w = and-r (ltb m (2 ^ 24)) (whole-units e) a in
+    let a = both-l (ltb m (2 ^ 24) && whole-units e) (leb (m * 2 ^ scale e) (256 * unit)) h in
+    let w = both-r (ltb m (2 ^ 24)) (whole-units e) a in
     record {
       has = record { sign = r; size = m * 2 ^ scale e; value = (refl, in-units m e w); is = refl };
-      good = good-at r m (scale e) (ltb→lt m (2 ^ 24) (and-l (ltb m (2 ^ 24)) (whole-units e) a))
-          (leb→le (m * 2 ^ scale e) (256 * unit) (and-r (ltb m (2 ^ 24) && whole-units e) (leb (m * 2 ^ scale e) (256 * unit)) h));
+      good = good-at r m (scale e) (ltb→lt m (2 ^ 24) (both-l (ltb m (2 ^ 24)) (whole-units e) a))
+          (leb→le (m * 2 ^ scale e) (256 * unit) (both-r (ltb m (2 ^ 24) && whole-units e) (leb (m * 2 ^ scale e) (256 * unit)) h));
     }
 
 -- ---- a row: both products and their sum
@@ -87,54 +90,6 @@ products X Y plus-x g h = record { a-small = lit≤ tt; b-small = lit≤ tt; lef
 products X Y minus-x g h = record { a-small = lit≤ tt; b-small = lit≤ tt; left = rw (minus-times X) (good-neg X g); right = rw (zero-*ℤ Y) good-zero; both = rw (row-minus-left X Y) (good-neg X g) }
 products X Y plus-y g h = record { a-small = lit≤ tt; b-small = lit≤ tt; left = rw (zero-*ℤ X) good-zero; right = rw (one-times Y) h; both = rw (row-plus-right X Y) h }
 products X Y minus-y g h = record { a-small = lit≤ tt; b-small = lit≤ tt; left = rw (zero-*ℤ X) good-zero; right = rw (minus-times Y) (good-neg Y h); both = rw (row-minus-right X Y) (good-neg Y h) }
-
--- ---- sizes
-
-size-add : (z w : ℤ) → natAbs (z +ℤ w) ≤ natAbs z + natAbs w
-size-add (pos a) (pos b) = le-refl (a + b)
-size-add (pos a) (negsuc b) = size-sub a (suc b) (a + suc b) (omega arith) (omega arith)
-size-add (negsuc a) (pos b) = size-sub b (suc a) (suc a + b) (omega arith) (omega arith)
-size-add (negsuc a) (negsuc b) = omega arith
-
-size-units : (p : ℤ) → natAbs (p *ℤ pos unit) ≡ natAbs p * unit
-size-units (pos n) = refl
-size-units (negsuc n) = signed-size true (suc n * unit)
-
-sum-small : (Z p : ℤ) → natAbs Z ≤ 256 * unit → natAbs p ≤ 6000 → natAbs (Z +ℤ p *ℤ pos unit) < 2 ^ 37
-sum-small Z p h k = omega (arith, size-add Z (p *ℤ pos unit), size-units p)
-
--- ---- a whole number of units: unit times goes over sums and minus
-
-times-unit : (m n : ℕ) → subℕ m n *ℤ pos unit ≡ subℕ (m * unit) (n * unit)
-times-unit m n = by-order (subℕ m n *ℤ pos unit ≡ subℕ (m * unit) (n * unit)) m n
-    (λ h. rw (sub-neg m n h) (minus-sub (suc (n - suc m) * unit) ∙ same-diff 0 (suc (n - suc m) * unit) (m * unit) (n * unit) (omega arith)))
-    (λ h. rw (sub-pos m n h) (plus-sub ((m - n) * unit) ∙ same-diff ((m - n) * unit) 0 (m * unit) (n * unit) (omega arith)))
-
-by-sub : (P : ℤ → Type 0) → ((m n : ℕ) → P (subℕ m n)) → (z : ℤ) → P z
-by-sub P f (pos n) = subst P (sym (pos-sub n)) (f n 0)
-by-sub P f (negsuc n) = subst P (sym (neg-sub-suc n)) (f 0 (suc n))
-
-abbrev units : ℤ → ℤ
-units z = z *ℤ pos unit
-
-units-neg : (z : ℤ) → negℤ (units z) ≡ units (negℤ z)
-units-neg = by-sub (λ z. negℤ (units z) ≡ units (negℤ z)) (λ m n. ap negℤ (times-unit m n) ∙ neg-sub (m * unit) (n * unit) ∙ sym (ap units (neg-sub m n) ∙ times-unit n m))
-
-units-add : (z w : ℤ) → units z +ℤ units w ≡ units (z +ℤ w)
-units-add z w = by-sub (λ z. units z +ℤ units w ≡ units (z +ℤ w)) (λ m n. by-sub (λ w. units (subℕ m n) +ℤ units w ≡ units (subℕ m n +ℤ w)) (at m n) w) z
-  where
-    at : (m n p q : ℕ) → units (subℕ m n) +ℤ units (subℕ p q) ≡ units (subℕ m n +ℤ subℕ p q)
-    at m n p q =
-        (λ i. times-unit m n i +ℤ times-unit p q i)
-        ∙ add-sub (m * unit) (n * unit) (p * unit) (q * unit)
-        ∙ same-diff (m * unit + p * unit) (n * unit + q * unit) ((m + p) * unit) ((n + q) * unit) (omega arith)
-        ∙ sym (ap units (add-sub m n p q) ∙ times-unit (m + p) (n + q))
-
-units-row : {a b : ℤ} (m n : ℤ) → Row a b → a *ℤ units m +ℤ b *ℤ units n ≡ units (a *ℤ m +ℤ b *ℤ n)
-units-row m n plus-x = row-plus-left (units m) (units n) ∙ sym (ap units (row-plus-left m n))
-units-row m n minus-x = row-minus-left (units m) (units n) ∙ units-neg m ∙ sym (ap units (row-minus-left m n))
-units-row m n plus-y = row-plus-right (units m) (units n) ∙ sym (ap units (row-plus-right m n))
-units-row m n minus-y = row-minus-right (units m) (units n) ∙ units-neg n ∙ sym (ap units (row-minus-right m n))
 
 -- ---- the law
 

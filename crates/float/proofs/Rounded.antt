@@ -1,38 +1,19 @@
 -- A whole number E of units, rounded: at most 1/4,096 from E, the whole number where E is one, and never -0.
-use mathlib.Core.Path.{_≡_, refl, sym, ap, _∙_, subst}
-use Prim.Native.Nat.{ℕ, zero, suc, _+_, _-_, _*_, _^_, _≤_, _<_}
-use native.Mathlib.Nat.{le-trans, le-of-eq, mul-one, mul-pos, zero-mul, zero-lt-suc}
+use mathlib.Core.Path.{_≡_, refl, sym, _∙_, subst}
+use Prim.Native.Nat.{ℕ, zero, suc, _+_, _*_, _^_, _≤_, _<_}
+use native.Mathlib.Nat.{mul-one, mul-pos, zero-lt-suc}
 use native.Mathlib.Omega.{arith}
 use mathlib.Core.Bool.{Bool, true, false, not, cond, _&&_}
-use lib.IntN.{ℤ, pos, negsuc, negℤ, natAbs, subℕ, _+ℤ_, _-ℤ_, _*ℤ_, negℤ-negℤ, +ℤ-comm}
-use lib.Signed.{nonNeg}
+use lib.IntN.{ℤ, pos, negsuc, natAbs, subℕ, _+ℤ_, _-ℤ_, _*ℤ_}
 use lib.Dec.{T, eqb, le→leb}
 use lib.Pow.{pow-pos}
 use lib.Ieee.{Float, nan, inf, fin, binary32, up, down, round, ofInt}
 use lib.Ieee.Scale.{round-same}
-use Rattle.float.specs.Close.{unit, signed, near, negative-zero}
 use borrow.Author.Tests.{ne-eqb}
-use Rattle.edge.proofs.Whole.{sub-pos, sub-neg, by-order, same-diff, add-sub, neg-sub, pos-sub}
+use Rattle.edge.proofs.Whole.{sub-pos, sub-neg, by-order, same-diff, add-sub, neg-sub}
+use Rattle.float.specs.Close.{unit, signed, near, negative-zero}
+use Rattle.float.proofs.Signed.{plus-sub, minus-sub, signed-times, negative}
 use Rattle.float.proofs.Nearness.{Rounded, round-near}
-
--- ---- a sign and a size
-
--- as a difference
-pub plus-sub : (n : ℕ) → signed false n ≡ subℕ n 0
-plus-sub n = pos-sub n
-
-pub minus-sub : (n : ℕ) → signed true n ≡ subℕ 0 n
-minus-sub n = ap negℤ (pos-sub n) ∙ neg-sub n 0
-
-pub signed-size : (s : Bool) (n : ℕ) → natAbs (signed s n) ≡ n
-signed-size false n = refl
-signed-size true zero = refl
-signed-size true (suc n) = refl
-
-pub signed-times : (s : Bool) (n k : ℕ) → signed s n *ℤ pos k ≡ signed s (n * k)
-signed-times false n k = refl
-signed-times true zero k = ap pos (zero-mul k) ∙ sym (ap (λ (z : ℕ). negℤ (pos z)) (zero-mul k))
-signed-times true (suc n) k = refl
 
 -- ---- a difference of two of one sign
 
@@ -73,7 +54,7 @@ told (fin t m e) s N h (p, (w, z)) = (
 -- ---- the rounded number
 
 abbrev pub rounded : ℤ → Float
-rounded E = round binary32 (not (nonNeg E)) (natAbs E) unit
+rounded E = round binary32 (negative E) (natAbs E) unit
 
 pub rounded-signed : (s : Bool) (N : ℕ) → (T s → 0 < N) → rounded (signed s N) ≡ round binary32 s N unit
 rounded-signed false N h = refl

@@ -1,10 +1,5 @@
 -- Each way out is the point of the definition.
 use borrow.Author.Needs.{needs}
-use mathlib.Core.Path.{_∙_, sym}
-use mathlib.Core.Bool.{cond}
-use lib.Ieee.{binary32, ofInt}
-use Rattle.edge.specs.Coordinates.{coordOf}
-use Rattle.draw.specs.Symbols.{at}
 use Rattle.cad.proofs.point.Statement.{statement}
 use Rattle.cad.proofs.point.Tie as tie
 

@@ -1,13 +1,12 @@
 -- The coordinate comes out of its bits as it was, and a float holds it.
 use borrow.Author.Needs.{needs}
-use mathlib.Core.Path.{_≡_, sym, ap, _∙_, subst}
+use mathlib.Core.Path.{sym, ap, _∙_, subst}
 use Prim.Native.Nat.{ℕ, suc, _-_, _^_, _<_}
 use native.Mathlib.Omega.{arith}
 use lib.Dec.{T, le→leb, lt→ltb}
 use lib.IntN.{ℤ}
 use lib.Ieee.{binary32, ofInt, inFloat}
 use mir.Syntax.{w32}
-use mir.Val.{toZ, ofZ}
 use mir.Facts.{toZ-ofZ}
 use Rattle.edge.specs.Coordinates.{coordOf}
 use Rattle.edge.proofs.Whole.{sub-pos, sub-neg, by-order}

@@ -1,7 +1,7 @@
 -- What equals itself is no NaN.
 use borrow.Author.Needs.{needs}
-use mathlib.Core.Path.{_≡_, subst, sym}
-use mathlib.Core.Bool.{Bool, false, not}
+use mathlib.Core.Path.{_≡_, subst}
+use mathlib.Core.Bool.{false, not}
 use lib.Dec.{T}
 use lib.Ieee.{Float, nan, inf, fin, ne, eq, isNan}
 use Rattle.panel_shapes.proofs.bits.Statement.{statement}

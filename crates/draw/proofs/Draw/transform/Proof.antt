@@ -1,6 +1,6 @@
 -- In each case what `moved` ensures of the points, and the equation of the case.
 use borrow.Author.Needs.{needs}
-use mathlib.Core.Path.{_≡_, sym, ap, _∙_}
+use mathlib.Core.Path.{sym, ap, _∙_}
 use Rattle.edge.specs.Coordinates.{coordOf}
 use Rattle.draw.specs.Transforms.{transformOf}
 use Rattle.draw.specs.declared.Draw.the-variants.{Line, Circle}
