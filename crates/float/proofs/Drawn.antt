@@ -106,7 +106,8 @@ module _ {a b : ℤ} (x y : Float) (p : ℤ) (r : Row a b) (hx : T (tame x)) (hy
   wide : natAbs p ≤ 2 ^ 24
   wide = omega arith
 
-  drawn-rounded : drawnOf a b x y p ≡ rounded (sumOf a b x y p)
+  -- the exact sum, rounded once
+  pub drawn-rounded : drawnOf a b x y p ≡ rounded (sumOf a b x y p)
   drawn-rounded = add-position p wide (add-has (mul-has a (P .a-small) (X .has) (P .left .held)) (mul-has b (P .b-small) (Y .has) (P .right .held)) (P .both .held))
 
   pub drawn-close : Close a b x y p (drawnOf a b x y p)

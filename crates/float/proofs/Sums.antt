@@ -12,7 +12,7 @@ use lib.Ieee.Fits.{down-pos, and-r}
 use lib.Ieee.Exact.{HasValue}
 use lib.Ieee.Scale.{round-same}
 use borrow.Author.Tests.{lt-ltb, le-ltb}
-use Rattle.lists.proofs.Tests.{ltb-reads, same-test, reads-as}
+use Rattle.lists.proofs.Tests.{ltb-reads, same-test, reads-as, not-not}
 use Rattle.edge.proofs.Whole.{by-order}
 use Rattle.float.specs.Close.{unit, signed}
 use Rattle.float.proofs.Signed.{signed-size, signed-add, signed-less}
@@ -105,7 +105,7 @@ opposed s A B = by-order (Sum s A (not s) B) A B
       sign = not s;
       size = B - A;
       rounds = simp (other s, lt-ltb A B h);
-      is = signed-less (not s) B A (omega arith) ∙ (λ i. signed (not s) B +ℤ signed (back s i) A) ∙ +ℤ-comm (signed (not s) B) (signed s A);
+      is = signed-less (not s) B A (omega arith) ∙ (λ i. signed (not s) B +ℤ signed (not-not s i) A) ∙ +ℤ-comm (signed (not s) B) (signed s A);
       plain = λ k t. omega arith;
     })
     (λ h. record {
@@ -119,10 +119,6 @@ opposed s A B = by-order (Sum s A (not s) B) A B
     other : (s : Bool) → Bool·beq s (not s) ≡ false
     other false = refl
     other true = refl
-
-    back : (s : Bool) → not (not s) ≡ s
-    back false = refl
-    back true = refl
 
     none : A ≤ B → A - B ≡ 0
     none l = omega arith
