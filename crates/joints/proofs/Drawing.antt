@@ -15,7 +15,7 @@ use Rattle.sheet.specs.declared.Tally.{Tally}
 use Rattle.sheet.specs.Lines.{marks}
 use Rattle.sheet.specs.Joints.{jointsOf}
 use Rattle.sheet.specs.Parts.{pads, padsOf}
-use Rattle.sheet.specs.Drawings.{Sheet, joints, wireRows, componentRows, listsOf, jointTable, drawn, tallyOf}
+use Rattle.sheet.specs.Drawings.{joints, wireRows, componentRows, listsOf, jointTable, drawn, tallyOf}
 use Rattle.sheet.proofs.Parts.{length-pads}
 use Rattle.sheet.proofs.Totals.{tally-sum, joints-few}
 use Rattle.joints.specs.Tables.{sheetOf, Sound, Counted}
