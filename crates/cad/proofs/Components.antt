@@ -1,73 +1,62 @@
 -- Each way out of `component`: the tests that led there decide the definition.
-use mathlib.Core.Path.{_≡_, refl, sym, ap, _∙_}
+use mathlib.Core.Path.{_≡_, sym, ap, _∙_}
 use Prim.Native.Nat.{ℕ, _≤_, _<_}
 use native.Mathlib.Omega.{arith}
-use mathlib.Core.Bool.{Bool, true, false, not, _&&_, cond}
+use mathlib.Core.Bool.{Bool, true, false, _&&_}
 use mathlib.Core.List.{map}
-use lib.Dec.{leb, eqb}
+use lib.Dec.{leb}
 use lib.IntN.{ℤ}
 use lib.ListN.{getD}
-use borrow.Author.Tests.{le-leb, lt-leb, eq-eqb, ne-eqb, not-true, not-false}
-use Rattle.edge.specs.Coordinates.{coordOf}
+use borrow.Author.Tests.{eq-eqb, ne-eqb}
 use Rattle.orientation.specs.Orientations.{known}
 use Rattle.orientation.specs.declared.RotMirror.{RotMirror}
 use Rattle.label.specs.Labels.{heldLabel}
 use Rattle.label.specs.declared.Label.{Label}
 use Rattle.label.specs.declared.Held.{Held}
-use Rattle.cad.specs.Answers.{Answer, drawn, no-shape, refused}
 use Rattle.draw.specs.Symbols.{countOf, drawsOf}
-use Rattle.draw.specs.Transforms.{transformOf}
-use Rattle.cad.specs.Shapes.{within, asked, componentShape}
+use Rattle.draw.specs.Transforms.{position, transformOf}
+use Rattle.draw.specs.declared.Vector2.{Vector2}
 use Rattle.draw.specs.declared.Draw.{Draw}
 use Rattle.draw.proofs.Tables.{count-is}
+use Rattle.cad.specs.Answers.{Answer, drawn, no-shape, refused}
+use Rattle.cad.specs.Shapes.{within, asked, componentShape}
 use Rattle.cad.proofs.Asked.{asked-at, asked-past}
-use Rattle.cad.proofs.Places.{In}
+use Rattle.cad.proofs.Places.{Tested}
 
-module _ (kind : ℕ) (o : RotMirror) (x y : ℤ) (label : Label) (i : ℕ) (a b : Bool) where
-  abbrev pub Right : Answer → Type 0
-  Right r = r ≡ componentShape kind o x y label i a b
+module _ (kind : ℕ) (o : RotMirror) where
+  symbol-test : {k t : Bool} → k ≡ known o → (leb kind 2 && k) ≡ t → (leb kind 2 && known o) ≡ t
+  symbol-test K t = sym (λ j. leb kind 2 && K j) ∙ t
 
-  -- the definition, by its three tests
-  by-tests : {t u v : Bool} → (leb kind 2 && known o) ≡ t → (within 5800 x && within 5800 y) ≡ u → eqb (heldLabel label .reply) 0 ≡ v
-      → Right (cond t (cond u (cond v (asked i (map (transformOf o x y) (drawsOf kind a b))) (refused 5)) (refused 1)) (refused 4))
+  pub unknown : (x y : ℤ) (label : Label) (i : ℕ) (a b : Bool) {k : Bool} → k ≡ known o → (leb kind 2 && k) ≡ false → refused 4 ≡ componentShape kind o x y label i a b
   unfolding componentShape
-  by-tests e f g = sym (λ j. cond (e j) (cond (f j) (cond (g j) (asked i (map (transformOf o x y) (drawsOf kind a b))) (refused 5)) (refused 1)) (refused 4))
+  unknown x y label i a b K t = simp (symbol-test K t)
 
-  pub bad-kind : 2 < kind → Right (refused 4)
-  bad-kind h = by-tests (λ j. lt-leb kind 2 h j && known o) refl refl
+  module _ {x y : ℤ} (label : Label) (i : ℕ) (a b : Bool) {k p q : Bool} (K : k ≡ known o) (t : (leb kind 2 && k) ≡ true) (X : Tested 5800 x p) (Y : Tested 5800 y q) where
+    abbrev Right : Answer → Type 0
+    Right r = r ≡ componentShape kind o x y label i a b
 
-  module _ (h : kind ≤ 2) {q : Bool} (e : q ≡ known o) where
-    kind-and : {t : Bool} → q ≡ t → (leb kind 2 && known o) ≡ t
-    kind-and p = λ j. le-leb kind 2 h j && (sym e ∙ p) j
+    place-test : {u : Bool} → (p && q) ≡ u → (within 5800 x && within 5800 y) ≡ u
+    place-test u = sym (λ j. X .is j && Y .is j) ∙ u
 
-    pub bad-orientation : not q ≡ true → Right (refused 4)
-    bad-orientation p = by-tests (kind-and (not-true q p)) refl refl
+    pub off-sheet : (p && q) ≡ false → Right (refused 1)
+    unfolding componentShape
+    off-sheet u = simp (symbol-test K t, place-test u)
 
-    module _ (p : not q ≡ false) where
-      pub bad-x : within 5800 x ≡ false → Right (refused 1)
-      bad-x f = by-tests (kind-and (not-false q p)) (λ j. f j && within 5800 y) refl
+    module _ {h : Held} (u : (p && q) ≡ true) (H : h ≡ heldLabel label) where
+      pub mislabelled : (h .reply ≡ 0 → ⊥) → Right (refused 5)
+      unfolding componentShape
+      mislabelled f = simp (symbol-test K t, place-test u, ne-eqb (heldLabel label .reply) 0 (λ r. f ((λ j. H j .reply) ∙ r)))
 
-      module _ {n : ℕ} (X : In 5800 x n) where
-        pub bad-y : within 5800 y ≡ false → Right (refused 1)
-        bad-y f = by-tests (kind-and (not-false q p)) (λ j. X .test j && f j) refl
+      module _ {n : ℕ} (g : h .reply ≡ 0) (N : n ≡ countOf kind) where
+        good : Right (asked i (map (transformOf o (position x y)) (drawsOf kind a b)))
+        unfolding componentShape
+        good = simp (symbol-test K t, place-test u, eq-eqb (heldLabel label .reply) 0 (sym (λ j. H j .reply) ∙ g))
 
-        module _ {m : ℕ} (Y : In 5800 y m) where
-          good-place : {v : Bool} → eqb (heldLabel label .reply) 0 ≡ v → Right (cond v (asked i (map (transformOf o x y) (drawsOf kind a b))) (refused 5))
-          good-place g = by-tests (kind-and (not-false q p)) (λ j. X .test j && Y .test j) g
+        pub past : n ≤ i → Right no-shape
+        past l = sym (asked-past (transformOf o (position x y)) (drawsOf kind a b) i (omega (arith, count-is kind a b))) ∙ good
 
-          module _ {held : Held} (f : held ≡ heldLabel label) where
-            pub bad-label : (held .reply ≡ 0 → ⊥) → Right (refused 5)
-            bad-label g = good-place (ne-eqb (heldLabel label .reply) 0 (λ r. g ((λ j. f j .reply) ∙ r)))
-
-            module _ (g : held .reply ≡ 0) {c : ℕ} (k : c ≡ countOf kind) where
-              good : Right (asked i (map (transformOf o x y) (drawsOf kind a b)))
-              good = good-place (eq-eqb (heldLabel label .reply) 0 (sym (λ j. f j .reply) ∙ g))
-
-              pub past : c ≤ i → Right no-shape
-              past l = sym (asked-past (transformOf o x y) (drawsOf kind a b) i (omega (arith, count-is kind a b))) ∙ good
-
-              pub shown : {d r : Draw} → i < c → d ≡ getD (drawsOf kind a b) i d → r ≡ transformOf o (coordOf n) (coordOf m) d → Right (drawn r)
-              shown {d} {r} l e t =
-                  ap drawn (t ∙ (λ j. transformOf o (X .is j) (Y .is j) d))
-                  ∙ sym (asked-at (transformOf o x y) (drawsOf kind a b) i d (omega (arith, count-is kind a b)) e)
-                  ∙ good
+        pub shown : {d r : Draw} {v : Vector2} → i < n → d ≡ getD (drawsOf kind a b) i d → v ≡ position x y → r ≡ transformOf o v d → Right (drawn r)
+        shown {d} l e f w =
+            ap drawn (w ∙ (λ j. transformOf o (f j) d))
+            ∙ sym (asked-at (transformOf o (position x y)) (drawsOf kind a b) i d (omega (arith, count-is kind a b)) e)
+            ∙ good

@@ -1,8 +1,10 @@
 // The answers to a call for a shape: of a component, a wire or a joint.
 ghost use mathlib.Core.Path.{_≡_};
-ghost use Rattle.edge.specs.Coordinates.{coordOf};
+ghost use Prim.Native.Nat.{_≤_};
+ghost use lib.IntN.{natAbs};
+ghost use Rattle.draw.specs.Transforms.{position};
 ghost use Rattle.cad.specs.Answers.{answered};
-ghost use Rattle.cad.specs.Shapes.{pointOf, componentShape, wireShape, junctionShape};
+ghost use Rattle.cad.specs.Shapes.{within, componentShape, wireShape, junctionShape};
 use draw::Draw;
 use draw::Vector2;
 use edge::Placed;
@@ -23,6 +25,37 @@ pub enum Shape {
     Mislabelled,
 }
 
+// Whether a component may stand at the coordinate.
+fn is_position(z: i32) -> bool
+    ensures { λ r. ⌜ r ≡ within 5800 z ⌝ }
+{
+    match edge::place_component(z) {
+        Placed::Inside(_) => true,
+        Placed::Outside => false,
+    }
+}
+
+// Whether a wire or a joint may be at the coordinate.
+fn on_sheet(z: i32) -> bool
+    ensures { λ r. ⌜ r ≡ within 6000 z ⌝ }
+{
+    match edge::place(z) {
+        Placed::Inside(_) => true,
+        Placed::Outside => false,
+    }
+}
+
+// A position in floats, exactly.
+fn convert(x: i32, y: i32) -> Vector2
+    requires { ⌜ (natAbs x ≤ 6000) × (natAbs y ≤ 6000) ⌝ }
+    ensures { λ r. ⌜ r ≡ position x y ⌝ }
+{
+    Vector2 {
+        x: x as f32,
+        y: y as f32,
+    }
+}
+
 // Shape i of a component, by the order of symbol.rs. a and b are a contact's A and B, and a is a coil's state.
 pub fn component(
     kind: u8,
@@ -36,18 +69,12 @@ pub fn component(
 ) -> Shape
     ensures { λ r. ⌜ answered r ≡ componentShape kind o x y label i a b ⌝ }
 {
-    if 2 < kind {
+    if !((kind <= 2) & orientation::is_known(o)) {
         return Shape::Unknown;
     }
-    if !orientation::is_known(o) {
-        return Shape::Unknown;
+    if !(is_position(x) & is_position(y)) {
+        return Shape::Outside;
     }
-    let Placed::Inside(px) = edge::place_component(x) else {
-        return Shape::Outside;
-    };
-    let Placed::Inside(py) = edge::place_component(y) else {
-        return Shape::Outside;
-    };
     let held = label::held_label(label);
     if held.reply != 0 {
         return Shape::Mislabelled;
@@ -56,51 +83,33 @@ pub fn component(
         return Shape::NoShape;
     }
     let d = draw::shape(kind, i, a, b);
-    Shape::Drawn(d.transform(o, px, py))
-}
-
-// The point at n along a wire.
-fn point(vertical: bool, line: u16, n: u16) -> Vector2
-    ensures { λ r. ⌜ r ≡ pointOf vertical (coordOf line) (coordOf n) ⌝ }
-{
-    let l = draw::as_f32(line);
-    let m = draw::as_f32(n);
-    if vertical {
-        return Vector2 { x: l, y: m };
-    }
-    Vector2 { x: m, y: l }
+    Shape::Drawn(d.transform(o, convert(x, y)))
 }
 
 // The mark of a wire.
 pub fn wire(vertical: bool, line: i32, start: i32, end: i32) -> Shape
     ensures { λ r. ⌜ answered r ≡ wireShape vertical line start end ⌝ }
 {
-    let Placed::Inside(l) = edge::place(line) else {
+    if !(on_sheet(line) & (on_sheet(start) & on_sheet(end))) {
         return Shape::Outside;
-    };
-    let Placed::Inside(s) = edge::place(start) else {
-        return Shape::Outside;
-    };
-    let Placed::Inside(e) = edge::place(end) else {
-        return Shape::Outside;
-    };
+    }
     if end < start {
         return Shape::Reversed;
     }
-    Shape::Drawn(Draw::Line(point(vertical, l, s), point(vertical, l, e), 6.0))
+    if vertical {
+        return Shape::Drawn(Draw::Line(convert(line, start), convert(line, end), 6.0));
+    }
+    Shape::Drawn(Draw::Line(convert(start, line), convert(end, line), 6.0))
 }
 
 // The mark of a joint with so many wire ends and pads.
 pub fn junction(x: i32, y: i32, count: u16) -> Shape
     ensures { λ r. ⌜ answered r ≡ junctionShape x y count ⌝ }
 {
-    let Placed::Inside(px) = edge::place(x) else {
+    if !(on_sheet(x) & on_sheet(y)) {
         return Shape::Outside;
-    };
-    let Placed::Inside(py) = edge::place(y) else {
-        return Shape::Outside;
-    };
-    let p = point(false, py, px);
+    }
+    let p = convert(x, y);
     if 3 <= count {
         return Shape::Drawn(Draw::Line(p, p, 40.0));
     }

@@ -15,7 +15,7 @@ use Rattle.float.specs.Drawn.{Row, plus-x, minus-x, plus-y, minus-y}
 use Rattle.float.specs.Close.{tame}
 use Rattle.float.proofs.Drawn.{drawn-close}
 use Rattle.draw.specs.Symbols.{whole, minus, bits, powerDraws, contactStatic, movingContact, coilStatic, innerCircle, drawsOf}
-use Rattle.draw.specs.Transforms.{movedOf, transformOf}
+use Rattle.draw.specs.Transforms.{position, movedOf, transformOf}
 use Rattle.draw.specs.Bound.{ClosePoint, CloseDraw, line, circle}
 use Rattle.draw.specs.declared.Vector2.{Vector2}
 use Rattle.draw.specs.declared.Draw.{Draw}
@@ -51,16 +51,16 @@ known-rows o t =
     ((plus-x, plus-y), ((minus-y, plus-x), ((minus-x, minus-y), ((plus-y, minus-x), ((minus-x, plus-y), ((minus-y, minus-x), ((plus-x, minus-y), ((plus-y, plus-x), tt)))))))) o t
 
 module _ (o : RotMirror) (x y : ℤ) (t : T (known o)) (hx : natAbs x ≤ 5800) (hy : natAbs y ≤ 5800) where
-  point-close : (p : Vector2) → T (tamePoint p) → ClosePoint o x y p (movedOf o x y p)
+  point-close : (p : Vector2) → T (tamePoint p) → ClosePoint o x y p (movedOf o (position x y) p)
   point-close p h =
       let tx = both-l (tame (p .x)) (tame (p .y)) h in
       let ty = both-r (tame (p .x)) (tame (p .y)) h in
       let r = known-rows o t in
       record { in-x = drawn-close (p .x) (p .y) x (r .0) tx ty (omega arith); in-y = drawn-close (p .x) (p .y) y (r .1) tx ty (omega arith) }
 
-  draw-close : (d : Draw) → T (tameDraw d) → CloseDraw o x y d (transformOf o x y d)
+  draw-close : (d : Draw) → T (tameDraw d) → CloseDraw o x y d (transformOf o (position x y) d)
   draw-close (Line p q width) h = line (point-close p (both-l (tamePoint p) (tamePoint q) h)) (point-close q (both-r (tamePoint p) (tamePoint q) h))
   draw-close (Circle p radius width) h = circle (point-close p h)
 
-  pub transform-close : (kind : ℕ) (a b : Bool) (d : Draw) → d ∈ drawsOf kind a b → CloseDraw o x y d (transformOf o x y d)
+  pub transform-close : (kind : ℕ) (a b : Bool) (d : Draw) → d ∈ drawsOf kind a b → CloseDraw o x y d (transformOf o (position x y) d)
   transform-close kind a b d m = draw-close d (holds (all-reads (λ e. test (tameDraw e)) (drawsOf kind a b)) (draws-tame kind a b) d m)

@@ -1,79 +1,65 @@
--- What `place` tells of the two coordinates, the tests of the count, and the point.
+-- What the tests of the two coordinates tell, the tests of the count, and the point.
 use borrow.Author.Needs.{needs}
 use lib.Dec.{lit≤}
 use lib.Ieee.{ofBits, ofInt}
+use borrow.Author.Tests.{not-true, not-false}
 use Rattle.draw.specs.Symbols.{whole}
-use Rattle.cad.proofs.Places.{outside, inside}
-use Rattle.cad.proofs.Marks.{bad-x, bad-y, dot, loose, bare}
+use Rattle.cad.proofs.Places.{tested, converted, small-two}
+use Rattle.cad.proofs.Marks.{mark-outside, dot, loose, bare}
 use Rattle.cad.proofs.junction.Statement.{statement}
 use Rattle.cad.proofs.junction.Tie as tie
 
-place-requires : tie.Need-place-requires
-place-requires c κs = search needs
+on-sheet-requires : tie.Need-on-sheet-requires
+on-sheet-requires c κs = search needs
 
-enum-known-px : tie.Need-enum-known-px
-enum-known-px c = search needs
-
-enum-told : tie.Need-enum-told
-enum-told c = search needs
+on-sheet-requires-2 : tie.Need-on-sheet-requires-2
+on-sheet-requires-2 c κs = search needs
 
 returns : tie.Need-returns
-returns c = let s = c .before .before .before in bad-x (s .args .x) (s .args .y) (s .args .count) (outside 6000 (s .args .x) (s .fits .x) (c .before .before .place .ensures) (c .enum-told .given .1))
+returns c =
+    let s = c .before .before .before in
+    let X = tested 6000 (s .fits .x) (c .before .before .on-sheet .ensures) in
+    let Y = tested 6000 (s .fits .y) (c .before .on-sheet2 .ensures) in
+    mark-outside (s .args .count) X Y (not-true _ (c .if1 .taken))
 
-place-requires-2 : tie.Need-place-requires-2
-place-requires-2 c κs = search needs
-
-enum-known-py : tie.Need-enum-known-py
-enum-known-py c = search needs
-
-enum-told-2 : tie.Need-enum-told-2
-enum-told-2 c = search needs
+convert-requires : tie.Need-convert-requires
+convert-requires c κs =
+    let s = c .before .before .before in
+    let X = tested 6000 (s .fits .x) (c .before .before .on-sheet .ensures) in
+    let Y = tested 6000 (s .fits .y) (c .before .on-sheet2 .ensures) in
+    small-two X Y (lit≤ tt) (not-false _ (c .if1 .left))
 
 returns-2 : tie.Need-returns-2
+unfolding whole ofBits ofInt
 returns-2 c =
-    let s = c .before .before .before .before .before .before .before in
-    let X = inside 6000 (s .args .x) (s .fits .x) (c .before .before .before .before .before .before .place .ensures) (lit≤ tt) (c .before .before .before .before .px .given .1) in
-    bad-y (s .args .x) (s .args .y) (s .args .count) X (outside 6000 (s .args .y) (s .fits .y) (c .before .before .place2 .ensures) (c .enum-told2 .given .1))
-
-point-requires : tie.Need-point-requires
-point-requires c κs = search needs
+    let s = c .before .before .before .before .before in
+    let X = tested 6000 (s .fits .x) (c .before .before .before .before .on-sheet .ensures) in
+    let Y = tested 6000 (s .fits .y) (c .before .before .before .on-sheet2 .ensures) in
+    dot (s .args .count) X Y (not-false _ (c .before .before .if1 .left)) (converted X Y (c .before .convert .ensures)) (c .if2 .taken)
 
 returns-3 : tie.Need-returns-3
 unfolding whole ofBits ofInt
 returns-3 c =
-    let s = c .before .before .before .before .before .before .before .before .before .before in
-    let X = inside 6000 (s .args .x) (s .fits .x) (c .before .before .before .before .before .before .before .before .before .place .ensures) (lit≤ tt) (c .before .before .before .before .before .before .before .px .given .1) in
-    let Y = inside 6000 (s .args .y) (s .fits .y) (c .before .before .before .before .before .place2 .ensures) (lit≤ tt) (c .before .before .before .py .given .1) in
-    dot (s .args .x) (s .args .y) (s .args .count) X Y (c .before .point .ensures) (c .if1 .taken)
+    let s = c .before .before .before .before .before .before in
+    let X = tested 6000 (s .fits .x) (c .before .before .before .before .before .on-sheet .ensures) in
+    let Y = tested 6000 (s .fits .y) (c .before .before .before .before .on-sheet2 .ensures) in
+    loose (s .args .count) X Y (not-false _ (c .before .before .before .if1 .left)) (converted X Y (c .before .before .convert .ensures)) (c .before .if2 .left) (c .if3 .taken)
 
 returns-4 : tie.Need-returns-4
-unfolding whole ofBits ofInt
 returns-4 c =
-    let s = c .before .before .before .before .before .before .before .before .before .before .before in
-    let X = inside 6000 (s .args .x) (s .fits .x) (c .before .before .before .before .before .before .before .before .before .before .place .ensures) (lit≤ tt) (c .before .before .before .before .before .before .before .before .px .given .1) in
-    let Y = inside 6000 (s .args .y) (s .fits .y) (c .before .before .before .before .before .before .place2 .ensures) (lit≤ tt) (c .before .before .before .before .py .given .1) in
-    loose (s .args .x) (s .args .y) (s .args .count) X Y (c .before .before .point .ensures) (c .before .if1 .left) (c .if2 .taken)
-
-returns-5 : tie.Need-returns-5
-returns-5 c =
-    let s = c .before .before .before .before .before .before .before .before .before .before .before in
-    let X = inside 6000 (s .args .x) (s .fits .x) (c .before .before .before .before .before .before .before .before .before .before .place .ensures) (lit≤ tt) (c .before .before .before .before .before .before .before .before .px .given .1) in
-    let Y = inside 6000 (s .args .y) (s .fits .y) (c .before .before .before .before .before .before .place2 .ensures) (lit≤ tt) (c .before .before .before .before .py .given .1) in
-    bare (s .args .x) (s .args .y) (s .args .count) X Y (c .before .before .point .ensures) (c .before .if1 .left) (c .if2 .left)
+    let s = c .before .before .before .before .before .before in
+    let X = tested 6000 (s .fits .x) (c .before .before .before .before .before .on-sheet .ensures) in
+    let Y = tested 6000 (s .fits .y) (c .before .before .before .before .on-sheet2 .ensures) in
+    bare (s .args .count) X Y (not-false _ (c .before .before .before .if1 .left)) (converted X Y (c .before .before .convert .ensures)) (c .before .if2 .left) (c .if3 .left)
 
 pub junction-spec : {M : Type 1} → statement M
 junction-spec =
     tie.close
     (tie.spec
-    place-requires
-    enum-known-px
-    enum-told
+    on-sheet-requires
+    on-sheet-requires-2
     returns
-    place-requires-2
-    enum-known-py
-    enum-told-2
+    convert-requires
     returns-2
-    point-requires
     returns-3
-    returns-4
-    returns-5)
+    returns-4)

@@ -1,96 +1,104 @@
--- What `place` tells of the three coordinates, the test of start and end, and the points.
+-- What the tests of the three coordinates tell, the test of start and end, and the points.
 use borrow.Author.Needs.{needs}
-use lib.Dec.{lit≤}
 use lib.Ieee.{ofBits, ofInt}
+use borrow.Author.Tests.{not-true, not-false}
 use Rattle.draw.specs.Symbols.{whole}
-use Rattle.cad.proofs.Places.{outside, inside, compared}
-use Rattle.cad.proofs.Marks.{bad-line, bad-start, bad-end, backward, forward}
+use Rattle.cad.proofs.Places.{tested, less-test, converted}
+use Rattle.cad.proofs.Marks.{wire-outside, small-three, reversed, downward, across}
 use Rattle.cad.proofs.wire.Statement.{statement}
 use Rattle.cad.proofs.wire.Tie as tie
 
-place-requires : tie.Need-place-requires
-place-requires c κs = search needs
+on-sheet-requires : tie.Need-on-sheet-requires
+on-sheet-requires c κs = search needs
 
-enum-known-l : tie.Need-enum-known-l
-enum-known-l c = search needs
+on-sheet-requires-2 : tie.Need-on-sheet-requires-2
+on-sheet-requires-2 c κs = search needs
 
-enum-told : tie.Need-enum-told
-enum-told c = search needs
+on-sheet-requires-3 : tie.Need-on-sheet-requires-3
+on-sheet-requires-3 c κs = search needs
 
 returns : tie.Need-returns
-returns c = let s = c .before .before .before in bad-line (s .args .vertical) (s .args .line) (s .args .start) (s .args .end) (outside 6000 (s .args .line) (s .fits .line) (c .before .before .place .ensures) (c .enum-told .given .1))
-
-place-requires-2 : tie.Need-place-requires-2
-place-requires-2 c κs = search needs
-
-enum-known-s : tie.Need-enum-known-s
-enum-known-s c = search needs
-
-enum-told-2 : tie.Need-enum-told-2
-enum-told-2 c = search needs
+returns c =
+    let s = c .before .before .before .before in
+    let L = tested 6000 (s .fits .line) (c .before .before .before .on-sheet .ensures) in
+    let S = tested 6000 (s .fits .start) (c .before .before .on-sheet2 .ensures) in
+    let E = tested 6000 (s .fits .end) (c .before .on-sheet3 .ensures) in
+    wire-outside (s .args .vertical) L S E (not-true _ (c .if1 .taken))
 
 returns-2 : tie.Need-returns-2
 returns-2 c =
+    let s = c .before .before .before .before .before in
+    let L = tested 6000 (s .fits .line) (c .before .before .before .before .on-sheet .ensures) in
+    let S = tested 6000 (s .fits .start) (c .before .before .before .on-sheet2 .ensures) in
+    let E = tested 6000 (s .fits .end) (c .before .before .on-sheet3 .ensures) in
+    reversed (s .args .vertical) L S E (not-false _ (c .before .if1 .left)) (less-test E S (c .if2 .taken))
+
+convert-requires : tie.Need-convert-requires
+convert-requires c κs =
+    let s = c .before .before .before .before .before .before in
+    let L = tested 6000 (s .fits .line) (c .before .before .before .before .before .on-sheet .ensures) in
+    let S = tested 6000 (s .fits .start) (c .before .before .before .before .on-sheet2 .ensures) in
+    let E = tested 6000 (s .fits .end) (c .before .before .before .on-sheet3 .ensures) in
+    let k = small-three (s .args .vertical) L S E (not-false _ (c .before .before .if1 .left)) in
+    (k .0, k .1 .0)
+
+convert-requires-2 : tie.Need-convert-requires-2
+convert-requires-2 c κs =
     let s = c .before .before .before .before .before .before .before in
-    let L = inside 6000 (s .args .line) (s .fits .line) (c .before .before .before .before .before .before .place .ensures) (lit≤ tt) (c .before .before .before .before .l .given .1) in
-    bad-start (s .args .vertical) (s .args .line) (s .args .start) (s .args .end) L (outside 6000 (s .args .start) (s .fits .start) (c .before .before .place2 .ensures) (c .enum-told2 .given .1))
-
-place-requires-3 : tie.Need-place-requires-3
-place-requires-3 c κs = search needs
-
-enum-known-e : tie.Need-enum-known-e
-enum-known-e c = search needs
-
-enum-told-3 : tie.Need-enum-told-3
-enum-told-3 c = search needs
+    let L = tested 6000 (s .fits .line) (c .before .before .before .before .before .before .on-sheet .ensures) in
+    let S = tested 6000 (s .fits .start) (c .before .before .before .before .before .on-sheet2 .ensures) in
+    let E = tested 6000 (s .fits .end) (c .before .before .before .before .on-sheet3 .ensures) in
+    let k = small-three (s .args .vertical) L S E (not-false _ (c .before .before .before .if1 .left)) in
+    (k .0, k .1 .1)
 
 returns-3 : tie.Need-returns-3
+unfolding whole ofBits ofInt
 returns-3 c =
-    let s = c .before .before .before .before .before .before .before .before .before .before .before in
-    let L = inside 6000 (s .args .line) (s .fits .line) (c .before .before .before .before .before .before .before .before .before .before .place .ensures) (lit≤ tt) (c .before .before .before .before .before .before .before .before .l .given .1) in
-    let S = inside 6000 (s .args .start) (s .fits .start) (c .before .before .before .before .before .before .place2 .ensures) (lit≤ tt) (c .before .before .before .before .s .given .1) in
-    bad-end (s .args .vertical) (s .args .line) (s .args .start) (s .args .end) L S (outside 6000 (s .args .end) (s .fits .end) (c .before .before .place3 .ensures) (c .enum-told3 .given .1))
+    let s = c .before .before .before .before .before .before .before .before in
+    let L = tested 6000 (s .fits .line) (c .before .before .before .before .before .before .before .on-sheet .ensures) in
+    let S = tested 6000 (s .fits .start) (c .before .before .before .before .before .before .on-sheet2 .ensures) in
+    let E = tested 6000 (s .fits .end) (c .before .before .before .before .before .on-sheet3 .ensures) in
+    downward (s .args .vertical) L S E (not-false _ (c .before .before .before .before .if1 .left)) (less-test E S (c .before .before .before .if2 .left)) (c .before .before .if3 .taken) (converted L S (c .before .convert .ensures)) (converted L E (c .convert2 .ensures))
+
+convert-requires-3 : tie.Need-convert-requires-3
+convert-requires-3 c κs =
+    let s = c .before .before .before .before .before .before in
+    let L = tested 6000 (s .fits .line) (c .before .before .before .before .before .on-sheet .ensures) in
+    let S = tested 6000 (s .fits .start) (c .before .before .before .before .on-sheet2 .ensures) in
+    let E = tested 6000 (s .fits .end) (c .before .before .before .on-sheet3 .ensures) in
+    let k = small-three (s .args .vertical) L S E (not-false _ (c .before .before .if1 .left)) in
+    (k .1 .0, k .0)
+
+convert-requires-4 : tie.Need-convert-requires-4
+convert-requires-4 c κs =
+    let s = c .before .before .before .before .before .before .before in
+    let L = tested 6000 (s .fits .line) (c .before .before .before .before .before .before .on-sheet .ensures) in
+    let S = tested 6000 (s .fits .start) (c .before .before .before .before .before .on-sheet2 .ensures) in
+    let E = tested 6000 (s .fits .end) (c .before .before .before .before .on-sheet3 .ensures) in
+    let k = small-three (s .args .vertical) L S E (not-false _ (c .before .before .before .if1 .left)) in
+    (k .1 .1, k .0)
 
 returns-4 : tie.Need-returns-4
-returns-4 c =
-    let s = c .before .before .before .before .before .before .before .before .before .before .before .before .before in
-    let L = inside 6000 (s .args .line) (s .fits .line) (c .before .before .before .before .before .before .before .before .before .before .before .before .place .ensures) (lit≤ tt) (c .before .before .before .before .before .before .before .before .before .before .l .given .1) in
-    let S = inside 6000 (s .args .start) (s .fits .start) (c .before .before .before .before .before .before .before .before .place2 .ensures) (lit≤ tt) (c .before .before .before .before .before .before .s .given .1) in
-    let E = inside 6000 (s .args .end) (s .fits .end) (c .before .before .before .before .place3 .ensures) (lit≤ tt) (c .before .before .e .given .1) in
-    backward (s .args .vertical) (s .args .line) (s .args .start) (s .args .end) L S E (compared (s .args .end) (s .args .start) (s .fits .end) (s .fits .start) (c .if1 .taken))
-
-point-requires : tie.Need-point-requires
-point-requires c κs = search needs
-
-point-requires-2 : tie.Need-point-requires-2
-point-requires-2 c κs = search needs
-
-returns-5 : tie.Need-returns-5
 unfolding whole ofBits ofInt
-returns-5 c =
-    let s = c .before .before .before .before .before .before .before .before .before .before .before .before .before .before .before in
-    let L = inside 6000 (s .args .line) (s .fits .line) (c .before .before .before .before .before .before .before .before .before .before .before .before .before .before .place .ensures) (lit≤ tt) (c .before .before .before .before .before .before .before .before .before .before .before .before .l .given .1) in
-    let S = inside 6000 (s .args .start) (s .fits .start) (c .before .before .before .before .before .before .before .before .before .before .place2 .ensures) (lit≤ tt) (c .before .before .before .before .before .before .before .before .s .given .1) in
-    let E = inside 6000 (s .args .end) (s .fits .end) (c .before .before .before .before .before .before .place3 .ensures) (lit≤ tt) (c .before .before .before .before .e .given .1) in
-    forward (s .args .vertical) (s .args .line) (s .args .start) (s .args .end) L S E (compared (s .args .end) (s .args .start) (s .fits .end) (s .fits .start) (c .before .before .if1 .left)) (c .before .point .ensures) (c .point2 .ensures)
+returns-4 c =
+    let s = c .before .before .before .before .before .before .before .before in
+    let L = tested 6000 (s .fits .line) (c .before .before .before .before .before .before .before .on-sheet .ensures) in
+    let S = tested 6000 (s .fits .start) (c .before .before .before .before .before .before .on-sheet2 .ensures) in
+    let E = tested 6000 (s .fits .end) (c .before .before .before .before .before .on-sheet3 .ensures) in
+    across (s .args .vertical) L S E (not-false _ (c .before .before .before .before .if1 .left)) (less-test E S (c .before .before .before .if2 .left)) (c .before .before .if3 .left) (converted S L (c .before .convert3 .ensures)) (converted E L (c .convert4 .ensures))
 
 pub wire-spec : {M : Type 1} → statement M
 wire-spec =
     tie.close
     (tie.spec
-    place-requires
-    enum-known-l
-    enum-told
+    on-sheet-requires
+    on-sheet-requires-2
+    on-sheet-requires-3
     returns
-    place-requires-2
-    enum-known-s
-    enum-told-2
     returns-2
-    place-requires-3
-    enum-known-e
-    enum-told-3
+    convert-requires
+    convert-requires-2
     returns-3
-    returns-4
-    point-requires
-    point-requires-2
-    returns-5)
+    convert-requires-3
+    convert-requires-4
+    returns-4)
