@@ -49,6 +49,11 @@ one-kind k ls h (pass p) (fail q) = omega arith
 one-kind k ls h (fail p) (pass q) = omega arith
 one-kind k ls h (fail p) (fail q) = omega arith
 
+-- the coils and the contacts
+pub length-list : (net : ℕ → ℕ) (es : List Entry) → length (listWith net es) ≡ length (linesFrom net 2 0 es) + length (linesFrom net 1 0 es)
+unfolding listWith
+length-list net es = length-append (linesFrom net 2 0 es) (linesFrom net 1 0 es)
+
 module _ (net : ℕ → ℕ) (digits : (j : ℕ) → length (decimalOf (net j)) ≤ 3) where
   both-short : (es : List Entry) (i : ℕ) → ((e : Entry) → e ∈ es → length (e .label) ≤ 16) → length (linesFrom net 2 i es) + length (linesFrom net 1 i es) ≤ 62 * length es
   unfolding linesFrom linesIn
@@ -66,8 +71,7 @@ module _ (net : ℕ → ℕ) (digits : (j : ℕ) → length (decimalOf (net j)) 
       )
 
   list-short : (es : List Entry) → ((e : Entry) → e ∈ es → length (e .label) ≤ 16) → length es ≤ 128 → length (listWith net es) ≤ 7936
-  unfolding listWith
-  list-short es h n = omega (arith, both-short es 0 h, length-append (linesFrom net 2 0 es) (linesFrom net 1 0 es))
+  list-short es h n = omega (arith, both-short es 0 h, length-list net es)
 
 label-short : (bs : List ℕ) → length (labelPart bs) ≤ length bs
 unfolding labelPart

@@ -5,3 +5,4 @@ pub mod Sheets
 pub mod Demand3
 pub mod Lengths
 mod Rows
+mod Buffers

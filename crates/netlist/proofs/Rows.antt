@@ -9,6 +9,7 @@ use lib.ListN.{length, getD, drop, replicate, length-append}
 use Rattle.lists.specs.Tables.{pad}
 use Rattle.lists.proofs.Tests.{choose, eqb-reads}
 use Rattle.lists.proofs.Walks.{rows-from, rows-past}
+use Rattle.orientation.specs.Orientations.{zeros}
 use Rattle.sheet.specs.declared.Component.{Component}
 use Rattle.sheet.specs.declared.Components.{Components}
 use Rattle.sheet.specs.Drawings.{componentRows}
@@ -18,6 +19,13 @@ pub one-pad : (k : ℕ) → (k ≡ 1 → ⊥) → (1 ≡ padsIn k) × (1 ≤ 3)
 one-pad zero h = (refl, omega arith)
 one-pad (suc zero) h = absurd (h refl)
 one-pad (suc (suc k)) h = (refl, omega arith)
+
+none-of : (l : List ℕ) (n a b k : ℕ) → (k ≡ 1 → ⊥) → (k ≡ 2 → ⊥) → linesOf k l n a b ≡ []
+unfolding linesOf
+none-of l n a b zero f g = refl
+none-of l n a b (suc zero) f g = absurd (f refl)
+none-of l n a b (suc (suc zero)) f g = absurd (g refl)
+none-of l n a b (suc (suc (suc k))) f g = refl
 
 module _ (e : Entry) {kind : ℕ} (n a b : ℕ) where
   pub contact-lines : {l : List ℕ} → l ≡ e .label → e .kind ≡ kind → kind ≡ 1 → switch l 65 n a ++ switch l 66 n b ≡ linesIn kind e n a b
@@ -32,16 +40,13 @@ module _ (e : Entry) {kind : ℕ} (n a b : ℕ) where
   unfolding linesIn
   other-lines f = choose (eqb-reads (e .kind) kind) (λ ls. ls ≡ []) (λ p. absurd (f p)) (λ _. refl)
 
-  none-of : (k : ℕ) → (k ≡ 1 → ⊥) → (k ≡ 2 → ⊥) → linesOf k (e .label) n a b ≡ []
-  unfolding linesOf
-  none-of zero f g = refl
-  none-of (suc zero) f g = absurd (f refl)
-  none-of (suc (suc zero)) f g = absurd (g refl)
-  none-of (suc (suc (suc k))) f g = refl
-
   pub no-lines : e .kind ≡ kind → (kind ≡ 1 → ⊥) → (kind ≡ 2 → ⊥) → linesIn kind e n a b ≡ []
   unfolding linesIn
-  no-lines p f g = choose (eqb-reads (e .kind) kind) (λ ls. ls ≡ []) (λ q. none-of (e .kind) (λ r. f (sym p ∙ r)) (λ r. g (sym p ∙ r))) (λ _. refl)
+  no-lines p f g = choose (eqb-reads (e .kind) kind) (λ ls. ls ≡ []) (λ q. none-of (e .label) n a b (e .kind) (λ r. f (sym p ∙ r)) (λ r. g (sym p ∙ r))) (λ _. refl)
+
+-- what the code reads past the end of an array of components
+abbrev pub blank : Component
+blank = record { kind = 0; «rot_mirror» = zeros; x = 0; y = 0; label = [] }
 
 -- the components from row i on, the first of which starts at pad `at`
 module _ (t : Components) (net : ℕ → ℕ) (kind at i : ℕ) (rows : t .count ≤ length (t .rows)) where
@@ -66,12 +71,12 @@ pub nth-pad : (n : ℕ) (ns : List ℕ) → nth (pad n 0 ns) ≡ nth ns
 unfolding pad
 nth-pad n ns = λ i j. behind ns (n - length ns) j i
   where
-    zeros : (k j : ℕ) → getD (replicate k 0) j 0 ≡ 0
-    zeros zero j = refl
-    zeros (suc k) zero = refl
-    zeros (suc k) (suc j) = zeros k j
+    all-zero : (k j : ℕ) → _≡_ {A = ℕ} (getD (replicate k 0) j 0) 0
+    all-zero zero j = refl
+    all-zero (suc k) zero = refl
+    all-zero (suc k) (suc j) = all-zero k j
 
     behind : (ns : List ℕ) (k j : ℕ) → getD (ns ++ replicate k 0) j 0 ≡ getD ns j 0
-    behind [] k j = zeros k j
+    behind [] k j = all-zero k j
     behind (n ∷ ns) k zero = refl
     behind (n ∷ ns) k (suc j) = behind ns k j

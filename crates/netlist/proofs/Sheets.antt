@@ -101,7 +101,7 @@ module _ (s t : Sheet) (kinds : (c : Component) → c ∈ s .parts → c .kind �
         let es : List Entry = map entry (s .parts) in
         let zs : Zeros (nth (netNumbers t)) 0 es = subst (Zeros (nth (netNumbers t)) 0) (sym alike) (all-zeros t) in
         let told = list-told (nth (netNumbers s)) (nth (netNumbers t)) es (λ x m. let r = ∈-of-map entry (s .parts) m in subst (λ y. y .kind ≤ 2) (r .2) (kinds (r .0) (r .1)))
-            (zeros-alike (nth (netNumbers s)) (nth (netNumbers t)) 0 es (all-zeros s) zs) (e ∙ ap (listWith (nth (netNumbers t))) (sym alike)) in
+        (zeros-alike (nth (netNumbers s)) (nth (netNumbers t)) 0 es (all-zeros s) zs) (e ∙ ap (listWith (nth (netNumbers t))) (sym alike)) in
         ext-getD 0 (netNumbers s) (netNumbers t) (numbered s .each ∙ same-count ∙ sym (numbered t .each)) (λ j h. told j (omega (arith, numbered s .each, pads-total (s .parts)))),
     λ e. (λ i. listWith (nth (e i)) (alike i)),
   )

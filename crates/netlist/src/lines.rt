@@ -88,7 +88,13 @@ fn pads_in(kind: u8) -> usize
 }
 
 // The lines of all components of one kind, in row order.
-pub(crate) fn put_lines(out: &mut [u8], at: usize, cs: Components, numbers: [u16; 384], kind: u8) -> usize
+pub(crate) fn put_lines(
+    out: &mut [u8],
+    at: usize,
+    cs: Components,
+    numbers: [u16; 384],
+    kind: u8,
+) -> usize
     requires { ⌜ cs .count ≤ 128 ⌝ ∗ ⌜ Room at (linesFrom (nth numbers) kind 0 (map entry (componentRows cs))) ⌝ }
     ensures { λ r. ⌜ Put (now (out .entry)) at (linesFrom (nth numbers) kind 0 (map entry (componentRows cs))) (now (out .exit)) r ⌝ }
 {
@@ -98,7 +104,15 @@ pub(crate) fn put_lines(out: &mut [u8], at: usize, cs: Components, numbers: [u16
     let mut i: usize = 0;
     while i < count {
         let c = cs.rows[i];
-        next = put_part(out, next, c, kind, numbers[pad], numbers[pad + 1], numbers[pad + 2]);
+        next = put_part(
+            out,
+            next,
+            c,
+            kind,
+            numbers[pad],
+            numbers[pad + 1],
+            numbers[pad + 2],
+        );
         pad += pads_in(c.kind);
         i += 1;
     }
