@@ -1,5 +1,5 @@
 -- What is known of a component that stands in a table of components that meet the limits, and what a turn of it gives.
-use Prim.Native.Nat.{ℕ, _≤_, _<_}
+use Prim.Native.Nat.{ℕ, _<_}
 use native.Mathlib.Omega.{arith}
 use mathlib.Core.Bool.{Bool, true, false}
 use mathlib.Core.Path.{_≡_, refl, ap, _∙_}
@@ -8,7 +8,7 @@ use lib.ListN.{length, getD}
 use Rattle.lists.proofs.Tables.{row-in}
 use Rattle.orientation.specs.declared.RotMirror.{RotMirror}
 use Rattle.orientation.specs.declared.Turned.{Turned}
-use Rattle.orientation.specs.Orientations.{known, turnedBy, done, refused}
+use Rattle.orientation.specs.Orientations.{known, turnedBy, done}
 use Rattle.sheet.specs.declared.Component.{Component}
 use Rattle.sheet.specs.declared.Components.{Components}
 use Rattle.sheet.specs.Parts.{PartFits, reoriented}
