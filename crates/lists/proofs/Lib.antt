@@ -1,2 +1,6 @@
 pub mod Tests
 pub mod Lists
+pub mod Tables
+pub mod Walks
+pub mod Passes
+pub mod Places

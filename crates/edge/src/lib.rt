@@ -1,0 +1,71 @@
+// The edge between the coordinates of document 01 and the numbers that rows hold: 6,000 more.
+ghost use mathlib.Core.Path.{_≡_};
+ghost use Rattle.edge.specs.Coordinates.{coordOf, placeOf, insideOf, sizeOf};
+
+// A coordinate as rows hold it, or none.
+pub enum Placed {
+    Inside(u16),
+    Outside,
+}
+
+// A pointer size, or none.
+pub enum Sized {
+    Is(u16),
+    Wrong,
+}
+
+// A coordinate of a wire end or the pointer, -6,000 to 6,000, as rows hold it.
+pub fn place(x: i32) -> Placed
+    ensures { λ r. ⌜ r ≡ placeOf 6000 x ⌝ }
+{
+    if x < -6000 {
+        return Placed::Outside;
+    }
+    if 6000 < x {
+        return Placed::Outside;
+    }
+    Placed::Inside((x + 6000) as u16)
+}
+
+// Whether a row's number is a component's position.
+pub fn is_position(n: u16) -> bool
+    ensures { λ r. ⌜ r ≡ insideOf n ⌝ }
+{
+    (200 <= n) & (n <= 11800)
+}
+
+// A coordinate of a component, -5,800 to 5,800, as rows hold it.
+pub fn place_component(x: i32) -> Placed
+    ensures { λ r. ⌜ r ≡ placeOf 5800 x ⌝ }
+{
+    match place(x) {
+        Placed::Inside(n) => {
+            if is_position(n) {
+                Placed::Inside(n)
+            } else {
+                Placed::Outside
+            }
+        }
+        Placed::Outside => Placed::Outside,
+    }
+}
+
+// The coordinate of a row's number.
+pub fn coordinate(n: u16) -> i32
+    ensures { λ r. ⌜ r ≡ coordOf n ⌝ }
+{
+    (n as i32) - 6000
+}
+
+// A pointer size, 0 to 1,000.
+pub fn size(s: i32) -> Sized
+    ensures { λ r. ⌜ r ≡ sizeOf s ⌝ }
+{
+    if s < 0 {
+        return Sized::Wrong;
+    }
+    if 1000 < s {
+        return Sized::Wrong;
+    }
+    Sized::Is(s as u16)
+}

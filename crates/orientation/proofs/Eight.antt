@@ -1,0 +1,105 @@
+-- What holds of the eight holds of every orientation that has a number; the turns' laws.
+use mathlib.Core.Path.{_≡_, refl, sym, ap, _∙_, subst}
+use Prim.Native.Nat.{ℕ, suc, _<_, _≤_, _+_}
+use native.Mathlib.Omega.{arith}
+use mathlib.Core.Bool.{Bool, true, false, _&&_, cond}
+use mathlib.Core.List.{List, [], _∷_}
+use lib.Dec.{T}
+use lib.IntN.{ℤ, pos, negsuc, negℤ, _-ℤ_}
+use mir.Syntax.{w8}
+use mir.Val.{SFits, toZ, ofZ}
+use mir.Facts.{sfits-lit}
+use lib.ListN.{drop}
+use lib.Seq.{drop-cons}
+use native.Mathlib.Numerals.{add-one}
+use borrow.Author.Tests.{lt-ltb}
+use Rattle.orientation.specs.Orientations.{eqZ, turn, eight, zeros, sameOf, seek, numberOf, isAt, known, eighth, numberedOf, done, refused, turnedBy}
+use Rattle.orientation.specs.declared.RotMirror.{RotMirror}
+use Rattle.orientation.specs.declared.Number.the-variants.{At, Unknown}
+use Rattle.lists.proofs.Tests.{both-l, both-r}
+use Rattle.orientation.proofs.Bits.{eqZ→eq}
+
+pub same-eq : (o p : RotMirror) → T (sameOf o p) → o ≡ p
+unfolding sameOf
+same-eq o p t =
+    let y = eqZ (o .1) (p .1) in
+    let z = eqZ (o .2) (p .2) in
+    let w = eqZ (o .3) (p .3) in
+    let t1 = both-r (eqZ (o .0) (p .0)) (y && (z && w)) t in
+    let t2 = both-r y (z && w) t1 in
+    λ i. turn (eqZ→eq (o .0) (p .0) (both-l (eqZ (o .0) (p .0)) (y && (z && w)) t) i) (eqZ→eq (o .1) (p .1) (both-l y (z && w) t1) i) (eqZ→eq (o .2) (p .2) (both-l z w t2) i) (eqZ→eq (o .3) (p .3) (both-r z w t2) i)
+
+-- P holds of each of a list
+abbrev Each : (RotMirror → Type 0) → List RotMirror → Type 0
+Each P [] = Unit {0}
+Each P (p ∷ ps) = P p × Each P ps
+
+sought : (P : RotMirror → Type 0) (o : RotMirror) (n : ℕ) (ps : List RotMirror) → Each P ps → T (isAt (seek o n ps)) → P o
+sought P o n [] e t = absurd t
+sought P o n (p ∷ ps) e t = go (sameOf o p) (same-eq o p) (sought P o (suc n) ps (e .1)) t
+  where
+    go : (b : Bool) → (T b → o ≡ p) → (T (isAt (seek o (suc n) ps)) → P o) → T (isAt (cond b (At n) (seek o (suc n) ps))) → P o
+    go true h k t = subst P (sym (h tt)) (e .0)
+    go false h k t = k t
+
+-- what holds of the eight holds of each orientation that has a number
+pub of-eight : (P : RotMirror → Type 0) → Each P eight → (o : RotMirror) → T (known o) → P o
+unfolding numberOf
+of-eight P e o t = sought P o 0 eight e t
+
+-- ---- the search for a number
+pub step : (o : RotMirror) (n : ℕ) → n < 8 → seek o n (drop n eight) ≡ cond (sameOf o (eighth n)) (At n) (seek o (n + 1) (drop (n + 1) eight))
+step o n h = rw (drop-cons eight n zeros h, add-one)
+
+pub turn-of : (n : ℕ) → n < 8 → numberedOf n .turn ≡ eighth n
+unfolding numberedOf
+turn-of n h = λ i. cond (lt-ltb n 8 h i) (done (eighth n)) refused .turn
+
+module _ (o p : RotMirror) (n : ℕ) (r : Bool) (h : n < 8) (inv : numberOf o ≡ seek o n (drop n eight)) (e : r ≡ sameOf o p) (q : p ≡ eighth n) where
+  case : (b : Bool) → r ≡ b → numberOf o ≡ cond b (At n) (seek o (n + 1) (drop (n + 1) eight))
+  case b t = inv ∙ step o n h ∙ (λ i. cond ((sym (e ∙ ap (sameOf o) q) ∙ t) i) (At n) (seek o (n + 1) (drop (n + 1) eight)))
+
+  pub found : r ≡ true → At n ≡ numberOf o
+  found t = sym (case true t)
+
+  pub passed : r ≡ false → numberOf o ≡ seek o (n + 1) (drop (n + 1) eight)
+  passed t = case false t
+
+pub none : (o : RotMirror) (n : ℕ) → n ≤ 8 → 8 ≤ n → numberOf o ≡ seek o n (drop n eight) → Unknown ≡ numberOf o
+none o n h k inv = let e : n ≡ 8 = omega arith in sym (inv ∙ ap (λ (m : ℕ). seek o m (drop m eight)) e)
+
+-- ---- the numbers of the eight, as the machine reads, writes and negates them
+pub record Small (z : ℤ) : Type 0 where
+  pub is : toZ w8 (ofZ w8 z) ≡ z
+  pub neg-fits : SFits w8 (pos 0 -ℤ toZ w8 (ofZ w8 z))
+  pub neg-is : toZ w8 (ofZ w8 (pos 0 -ℤ toZ w8 (ofZ w8 z))) ≡ negℤ z
+
+one : Small (pos 1)
+one = record { is = refl; neg-fits = sfits-lit tt; neg-is = refl }
+
+nil : Small (pos 0)
+nil = record { is = refl; neg-fits = sfits-lit tt; neg-is = refl }
+
+minus : Small (negsuc 0)
+minus = record { is = refl; neg-fits = sfits-lit tt; neg-is = refl }
+
+abbrev pub Smalls : RotMirror → Type 0
+Smalls o = Small (o .0) × Small (o .1) × Small (o .2) × Small (o .3)
+
+pub small-known : (o : RotMirror) → T (known o) → Smalls o
+small-known o t =
+    of-eight Smalls
+    ((one, nil, nil, one), ((nil, minus, one, nil), ((minus, nil, nil, minus), ((nil, one, minus, nil), ((minus, nil, nil, one), ((nil, minus, minus, nil), ((one, nil, nil, minus), ((nil, one, one, nil), tt))))))))
+    o t
+
+pub smalls : (o : RotMirror) (r : Bool) → r ≡ known o → r ≡ true → Smalls o
+smalls o r e t = small-known o (subst T (sym t ∙ e) tt)
+
+-- a turn of one of the eight, and of any other
+pub turned : (f : RotMirror → RotMirror) (o : RotMirror) (r : Bool) → r ≡ known o → r ≡ true → {p : RotMirror} → p ≡ f o → done p ≡ turnedBy f o
+unfolding turnedBy
+turned f o r e t q = ap done q ∙ sym (λ i. cond ((sym e ∙ t) i) (done (f o)) refused)
+
+pub unturned : (f : RotMirror → RotMirror) (o : RotMirror) (r : Bool) → r ≡ known o → r ≡ false → refused ≡ turnedBy f o
+unfolding turnedBy
+unturned f o r e t = sym (λ i. cond ((sym e ∙ t) i) (done (f o)) refused)

@@ -1,0 +1,26 @@
+-- `orientation::mirror` meets its contract: the numbers of the eight fit, and so do their negatives.
+use borrow.Author.Needs.{needs}
+use Rattle.orientation.specs.Orientations.{mirrorOf}
+use Rattle.orientation.proofs.Eight.{smalls, turned, unturned}
+use Rattle.orientation.proofs.mirror.Statement.{statement}
+use Rattle.orientation.proofs.mirror.Tie as tie
+
+is-known-requires : tie.Need-is-known-requires
+is-known-requires c κs = search needs
+
+sub-t4 : tie.Need-sub-t4
+sub-t4 c = smalls (c .before .before .before .before .args .o) (c .before .before .before .is-known .result) (c .before .before .before .is-known .ensures) (c .before .before .if1 .taken) .0 .neg-fits
+
+sub-t5 : tie.Need-sub-t5
+sub-t5 c = smalls (c .before .before .before .before .before .before .args .o) (c .before .before .before .before .before .is-known .result) (c .before .before .before .before .before .is-known .ensures) (c .before .before .before .before .if1 .taken) .1 .neg-fits
+
+returns : tie.Need-returns
+returns c =
+    let s = smalls (c .before .before .before .before .before .before .before .args .o) (c .before .before .before .before .before .before .is-known .result) (c .before .before .before .before .before .before .is-known .ensures) (c .before .before .before .before .before .if1 .taken) in
+    turned mirrorOf (c .before .before .before .before .before .before .before .args .o) (c .before .before .before .before .before .before .is-known .result) (c .before .before .before .before .before .before .is-known .ensures) (c .before .before .before .before .before .if1 .taken) (λ i. (s .0 .neg-is i, s .1 .neg-is i, s .2 .is i, s .3 .is i))
+
+returns-2 : tie.Need-returns-2
+returns-2 c = unturned mirrorOf (c .before .before .args .o) (c .before .is-known .result) (c .before .is-known .ensures) (c .if1 .left)
+
+pub mirror-spec : {M : Type 1} → statement M
+mirror-spec = tie.close (tie.spec is-known-requires sub-t4 sub-t5 returns returns-2)

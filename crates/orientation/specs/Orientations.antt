@@ -1,0 +1,97 @@
+-- The eight orientations, their numbers, and the three turns.
+use Prim.Native.Nat.{ℕ, suc}
+use mathlib.Core.Bool.{Bool, true, false, _&&_, cond}
+use mathlib.Core.List.{List, [], _∷_}
+use lib.Dec.{eqb, ltb}
+use lib.IntN.{ℤ, pos, negsuc, negℤ}
+use lib.ListN.{getD}
+use Rattle.orientation.specs.declared.RotMirror.{RotMirror}
+use Rattle.orientation.specs.declared.Turned.{Turned}
+use Rattle.orientation.specs.declared.Number.{Number}
+use Rattle.orientation.specs.declared.Number.the-variants.{At, Unknown}
+
+abbrev pub turn : ℤ → ℤ → ℤ → ℤ → RotMirror
+turn a b c d = record { 0 = a; 1 = b; 2 = c; 3 = d }
+
+-- "Numbered 0 to 3: (1,0,0,1), (0,−1,1,0), (−1,0,0,−1), (0,1,−1,0). 4 to 7: (−1,0,0,1), (0,−1,−1,0), (1,0,0,−1), (0,1,1,0)."
+abbrev pub eight : List RotMirror
+eight =
+    turn (pos 1) (pos 0) (pos 0) (pos 1)
+    ∷ turn (pos 0) (negsuc 0) (pos 1) (pos 0)
+    ∷ turn (negsuc 0) (pos 0) (pos 0) (negsuc 0)
+    ∷ turn (pos 0) (pos 1) (negsuc 0) (pos 0)
+    ∷ turn (negsuc 0) (pos 0) (pos 0) (pos 1)
+    ∷ turn (pos 0) (negsuc 0) (negsuc 0) (pos 0)
+    ∷ turn (pos 1) (pos 0) (pos 0) (negsuc 0)
+    ∷ turn (pos 0) (pos 1) (pos 1) (pos 0)
+    ∷ []
+
+-- the same number, and the same four numbers
+abbrev pub eqZ : ℤ → ℤ → Bool
+eqZ (pos m) (pos n) = eqb m n
+eqZ (pos m) (negsuc n) = false
+eqZ (negsuc m) (pos n) = false
+eqZ (negsuc m) (negsuc n) = eqb m n
+
+unfoldable pub sameOf : RotMirror → RotMirror → Bool
+sameOf o p = eqZ (o .0) (p .0) && (eqZ (o .1) (p .1) && (eqZ (o .2) (p .2) && eqZ (o .3) (p .3)))
+
+-- the place of o in a list, counted from n
+abbrev pub seek : RotMirror → ℕ → List RotMirror → Number
+seek o n [] = Unknown
+seek o n (p ∷ ps) = cond (sameOf o p) (At n) (seek o (suc n) ps)
+
+-- the number of o
+unfoldable pub numberOf : RotMirror → Number
+numberOf o = seek o 0 eight
+
+abbrev pub isAt : Number → Bool
+isAt (At n) = true
+isAt Unknown = false
+
+-- "Orientation: four signed numbers that are one of the eight"
+abbrev pub known : RotMirror → Bool
+known o = isAt (numberOf o)
+
+abbrev pub zeros : RotMirror
+zeros = turn (pos 0) (pos 0) (pos 0) (pos 0)
+
+-- the orientation of a number below 8
+abbrev pub eighth : ℕ → RotMirror
+eighth n = getD eight n zeros
+
+-- ---- the calls: "A box, pads or a turn asked of a bad kind, orientation or position get 4 or 1, in that order, and zeros for every number."
+abbrev pub done : RotMirror → Turned
+done o = record { reply = 0; turn = o }
+
+abbrev pub refused : Turned
+refused = record { reply = 4; turn = zeros }
+
+unfoldable pub numberedOf : ℕ → Turned
+numberedOf n = cond (ltb n 8) (done (eighth n)) refused
+
+-- a turn asked of four numbers
+unfoldable pub turnedBy : (RotMirror → RotMirror) → RotMirror → Turned
+turnedBy f o = cond (known o) (done (f o)) refused
+
+-- "Turn right: (−c, −d, a, b)."
+abbrev pub rightOf : RotMirror → RotMirror
+rightOf o = turn (negℤ (o .2)) (negℤ (o .3)) (o .0) (o .1)
+
+-- "Turn left: (c, d, −a, −b)."
+abbrev pub leftOf : RotMirror → RotMirror
+leftOf o = turn (o .2) (o .3) (negℤ (o .0)) (negℤ (o .1))
+
+-- "Mirror: (−a, −b, c, d)."
+abbrev pub mirrorOf : RotMirror → RotMirror
+mirrorOf o = turn (negℤ (o .0)) (negℤ (o .1)) (o .2) (o .3)
+
+-- ---- the turns, as they act on the numbers 0 to 7
+abbrev pub rights : List ℕ
+rights = 1 ∷ 2 ∷ 3 ∷ 0 ∷ 5 ∷ 6 ∷ 7 ∷ 4 ∷ []
+
+abbrev pub lefts : List ℕ
+lefts = 3 ∷ 0 ∷ 1 ∷ 2 ∷ 7 ∷ 4 ∷ 5 ∷ 6 ∷ []
+
+abbrev pub mirrors : List ℕ
+mirrors = 4 ∷ 7 ∷ 6 ∷ 5 ∷ 0 ∷ 3 ∷ 2 ∷ 1 ∷ []

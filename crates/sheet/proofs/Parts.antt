@@ -1,0 +1,43 @@
+-- Components: which touch, how many pads they have, and what another orientation leaves as it was.
+use Prim.Native.Nat.{ℕ, zero, suc, _≤_}
+use mathlib.Core.Path.{_≡_, subst, sym}
+use native.Mathlib.Omega.{arith}
+use lib.Dec.{T}
+use lib.ListN.{length, length-map}
+use Rattle.lists.proofs.Tests.{Reads, holds}
+use Rattle.orientation.specs.declared.RotMirror.{RotMirror}
+use Rattle.orientation.specs.Orientations.{known, mirrorOf}
+use Rattle.symbol.specs.Symbols.{boundsAt, movedOf, padsAt, within}
+use Rattle.symbol.proofs.Boxes.{own-box, common-touches, mirror-box}
+use Rattle.sheet.specs.declared.Component.{Component}
+use Rattle.sheet.specs.Boxes.{Shares}
+use Rattle.sheet.specs.Parts.{position, box, pads, touches, PartFits, reoriented, mirrored}
+use Rattle.sheet.proofs.Boxes.{shares-reads}
+
+pub touches-reads : (b c : Component) → Reads (Shares (box b) (box c)) (touches b c)
+unfolding touches
+touches-reads b c = shares-reads (box b) (box c)
+
+-- a component stands in its own box, so two at one position touch
+pub near : (b c : Component) → PartFits b → PartFits c → position b ≡ position c → Shares (box b) (box c)
+unfolding box
+near b c f g e =
+    holds (shares-reads (box b) (box c))
+    (common-touches (box b) (box c) (position c) (subst (λ p. T (within p (box b))) e (own-box (b .kind) (b .«rot_mirror») (b .x) (b .y) (f .orientation))) (own-box (c .kind) (c .«rot_mirror») (c .x) (c .y) (g .orientation)))
+
+pub length-pads : (c : Component) → length (pads c) ≤ 3
+unfolding pads
+length-pads c = omega (arith, length-map (padsAt (c .kind)) (movedOf (c .«rot_mirror») (c .x) (c .y)), at-most (c .kind))
+  where
+    at-most : (k : ℕ) → length (padsAt k) ≤ 3
+    at-most zero = omega arith
+    at-most (suc zero) = omega arith
+    at-most (suc (suc k)) = omega arith
+
+pub reoriented-fits : (f : RotMirror → RotMirror) → ((o : RotMirror) → T (known o) → T (known (f o))) → (c : Component) → PartFits c → PartFits (reoriented f c)
+reoriented-fits f k c t = record { kind = t .kind; orientation = k (c .«rot_mirror») (t .orientation); x = t .x; y = t .y; label = t .label }
+
+-- a contact's box is symmetric
+pub mirrored-box : (c : Component) → c .kind ≡ 1 → PartFits c → box (mirrored c) ≡ box c
+unfolding box
+mirrored-box c e f = subst (λ k. boundsAt k (mirrorOf (c .«rot_mirror»)) (c .x) (c .y) ≡ boundsAt k (c .«rot_mirror») (c .x) (c .y)) (sym e) (mirror-box (c .«rot_mirror») (c .x) (c .y) (f .orientation))

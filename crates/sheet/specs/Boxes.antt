@@ -1,0 +1,24 @@
+-- What the square about the pointer meets, edges counted.
+use Prim.Native.Nat.{ℕ, _+_, _-_, _≤_}
+use Rattle.symbol.specs.declared.Point.{Point}
+use Rattle.symbol.specs.declared.Bounds.{Bounds}
+use Rattle.sheet.specs.declared.Wire.{Wire}
+use Rattle.sheet.specs.Lines.{low, high, tip}
+
+-- the square of half-width size about the pointer; what lies below the lowest coordinate holds no point of a drawing
+abbrev pub square : Point → ℕ → Bounds
+square p size = record {
+  low = record { x = p .x - size; y = p .y - size };
+  high = record { x = p .x + size; y = p .y + size };
+}
+
+-- a wire's line, as a box
+abbrev pub line : Wire → Bounds
+line w = record { low = tip low w; high = tip high w }
+
+-- the two boxes share a point
+pub record Shares (a b : Bounds) : Type 0 where
+  pub x : a .low .x ≤ b .high .x
+  pub x′ : b .low .x ≤ a .high .x
+  pub y : a .low .y ≤ b .high .y
+  pub y′ : b .low .y ≤ a .high .y

@@ -1,0 +1,13 @@
+pub mod Points
+pub mod Lines
+pub mod Split
+pub mod Merge
+pub mod Run
+pub mod Joints
+pub mod Boxes
+pub mod Parts
+pub mod Drawings
+pub mod Edits
+pub mod Wiring
+pub mod Rules
+pub mod Examples

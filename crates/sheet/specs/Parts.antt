@@ -1,0 +1,63 @@
+-- Components: a symbol, turned and moved to its position.
+use Prim.Native.Nat.{_≤_}
+use mathlib.Core.Bool.{Bool}
+use mathlib.Core.List.{List}
+use lib.Dec.{T, eqb}
+use Rattle.lists.specs.Lists.{gather}
+use Rattle.orientation.specs.declared.RotMirror.{RotMirror}
+use Rattle.orientation.specs.Orientations.{known, rightOf, mirrorOf}
+use Rattle.label.specs.Labels.{labelOk}
+use Rattle.symbol.specs.declared.Point.{Point}
+use Rattle.symbol.specs.declared.Bounds.{Bounds}
+use Rattle.symbol.specs.Symbols.{padPoints, boundsAt, touchesOf}
+use Rattle.sheet.specs.declared.Component.{Component}
+use Rattle.sheet.specs.Points.{rises}
+
+-- where it stands
+abbrev pub position : Component → Point
+position c = record { x = c .x; y = c .y }
+
+-- the component's box
+unfoldable pub box : Component → Bounds
+box c = boundsAt (c .kind) (c .«rot_mirror») (c .x) (c .y)
+
+-- the component's pads, in symbol order
+unfoldable pub pads : Component → List Point
+pads c = padPoints (c .kind) (c .«rot_mirror») (c .x) (c .y)
+
+-- the pads of all components
+abbrev pub padsOf : List Component → List Point
+padsOf cs = gather pads cs
+
+-- the two boxes share a point, edges counted
+unfoldable pub touches : Component → Component → Bool
+touches b c = touchesOf (box b) (box c)
+
+-- row order of components, by (y, x)
+abbrev pub ahead : Component → Component → Bool
+ahead b c = rises (position b) (position c)
+
+-- "Kind: 0 Power, 1 Contact, 2 Coil. Orientation: four signed numbers that are one of the eight. Component position:
+-- −5,800 to 5,800. Label: 0 to 16 bytes, each 0x21 to 0x7E, held in 16 bytes with zeros behind."
+pub record PartFits (c : Component) : Type 0 where
+  pub kind : c .kind ≤ 2
+  pub orientation : T (known (c .«rot_mirror»))
+  pub x : (200 ≤ c .x) × (c .x ≤ 11800)
+  pub y : (200 ≤ c .y) × (c .y ≤ 11800)
+  pub label : T (labelOk (c .label))
+
+-- "Only contacts turn or mirror in place"
+abbrev pub isContact : Component → Bool
+isContact c = eqb (c .kind) 1
+
+-- the component with another orientation
+abbrev pub reoriented : (RotMirror → RotMirror) → Component → Component
+reoriented f c = record { kind = c .kind; «rot_mirror» = f (c .«rot_mirror»); x = c .x; y = c .y; label = c .label }
+
+-- turned right in its place
+abbrev pub turnedRight : Component → Component
+turnedRight c = reoriented rightOf c
+
+-- mirrored in its place
+abbrev pub mirrored : Component → Component
+mirrored c = reoriented mirrorOf c

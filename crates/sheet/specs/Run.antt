@@ -1,0 +1,47 @@
+-- The wire edit on wires and pads.
+use Prim.Native.Nat.{min, max}
+use mathlib.Core.Bool.{cond, not}
+use mathlib.Core.List.{List, [], _∷_}
+use lib.Dec.{eqb}
+use Rattle.sheet.specs.declared.Wire.{Wire}
+use Rattle.symbol.specs.declared.Point.{Point}
+use Rattle.lists.specs.Lists.{keep, insert, insertAll}
+use Rattle.sheet.specs.Lines.{tips, marks, on, meets, first}
+use Rattle.sheet.specs.Split.{splitAll}
+
+-- each wire of the same direction that meets the new one is removed
+unfoldable pub kept : Wire → List Wire → List Wire
+kept n ws = keep (λ w. not (meets n w)) ws
+
+-- r, reaching to the outermost ends of w too
+abbrev pub stretch : Wire → Wire → Wire
+stretch r w = record { vertical = r .vertical; line = r .line; start = min (r .start) (w .start); end = max (r .end) (w .end) }
+
+-- the new run reaches to the outermost ends of the wires removed
+unfoldable pub run : Wire → List Wire → Wire
+run n [] = n
+run n (w ∷ ws) = cond (meets n w) (stretch (run n ws) w) (run n ws)
+
+-- at the two ends as drawn, each crossing wire is split that has that end strictly inside
+unfoldable pub rest : Wire → List Wire → List Wire
+rest n ws = splitAll (tips n) (kept n ws)
+
+-- the joints still standing from one end as drawn to the other, both included
+unfoldable pub standing : Wire → List Wire → List Point → List Point
+standing n ws ps = keep (λ p. on p n) (marks ws ps)
+
+-- the run r goes in among the rest and is cut at the standing joints
+unfoldable pub lay : Wire → Wire → List Wire → List Point → List Wire
+lay n r ws ps = splitAll (standing n ws ps) (insert first r ws)
+
+-- the new wire n among the wires ws and the pads ps
+unfoldable pub addWire : Wire → List Wire → List Point → List Wire
+addWire n ws ps = lay n (run n ws) (rest n ws) ps
+
+-- a zero-length wire changes nothing
+unfoldable pub drawWire : Wire → List Wire → List Point → List Wire
+drawWire n ws ps = cond (eqb (n .start) (n .end)) ws (addWire n ws ps)
+
+-- the same edit with the run cut alone, and its pieces put in
+unfoldable pub addPieces : Wire → List Wire → List Point → List Wire
+addPieces n ws ps = insertAll first (splitAll (standing n (rest n ws) ps) (run n ws ∷ [])) (rest n ws)

@@ -1,0 +1,5 @@
+pub mod Rows
+pub mod Symbols
+pub mod Exact
+pub mod Boxes
+pub mod Answers

@@ -1,0 +1,120 @@
+-- The symbols of document 01: boxes and pads, turned, moved to a position, and the refusals, in the numbers that rows hold.
+use Prim.Native.Nat.{ℕ, zero, suc, min, max, _≤_}
+use mathlib.Core.Bool.{Bool, _&&_, cond}
+use mathlib.Core.List.{List, [], _∷_, _++_, map}
+use lib.Dec.{T, leb, eqb}
+use lib.IntN.{ℤ, pos, negℤ, _+ℤ_, _*ℤ_}
+use lib.ListN.{length, take}
+use Rattle.orientation.specs.Orientations.{known}
+use Rattle.orientation.specs.declared.RotMirror.{RotMirror}
+use Rattle.edge.specs.Coordinates.{coordOf, biased, insideOf}
+use Rattle.symbol.specs.declared.Point.{Point}
+use Rattle.symbol.specs.declared.PadBlock.{PadBlock}
+use Rattle.symbol.specs.declared.PadsReply.{PadsReply}
+use Rattle.symbol.specs.declared.Bounds.{Bounds}
+use Rattle.symbol.specs.declared.BoundsReply.{BoundsReply}
+
+-- a point of a symbol, from its position
+pub record Offset : Type 0 where
+  pub dx : ℤ
+  pub dy : ℤ
+
+abbrev pub off : ℤ → ℤ → Offset
+off x y = record { dx = x; dy = y }
+
+abbrev pub minus : ℕ → ℤ
+minus n = negℤ (pos n)
+
+-- "Pads: Power V+ (0,0); Contact C (0,−100), A (−50,100), B (50,100); Coil N (0,−100)."
+abbrev pub padsAt : ℕ → List Offset
+padsAt zero = off (pos 0) (pos 0) ∷ []
+padsAt (suc zero) = off (pos 0) (minus 100) ∷ off (minus 50) (pos 100) ∷ off (pos 50) (pos 100) ∷ []
+padsAt (suc (suc n)) = off (pos 0) (minus 100) ∷ []
+
+-- "Boxes, low to high corner: Power (−50,−100) to (50,0); Contact (−50,−100) to (50,100); Coil (−50,−100) to (50,150)."
+abbrev pub lowAt : ℕ → Offset
+lowAt k = off (minus 50) (minus 100)
+
+abbrev pub highAt : ℕ → Offset
+highAt zero = off (pos 50) (pos 0)
+highAt (suc zero) = off (pos 50) (pos 100)
+highAt (suc (suc n)) = off (pos 50) (pos 150)
+
+-- "Only contacts turn or mirror in place"
+abbrev pub canTurn : ℕ → Bool
+canTurn kind = eqb kind 1
+
+-- "(a, b, c, d) takes (x, y) to (ax+by, cx+dy)."
+abbrev pub applied : RotMirror → Offset → Offset
+applied o q = off (o .0 *ℤ q .dx +ℤ o .1 *ℤ q .dy) (o .2 *ℤ q .dx +ℤ o .3 *ℤ q .dy)
+
+-- a point of a symbol at the position (x, y), both as rows hold them
+abbrev pub movedOf : RotMirror → ℕ → ℕ → Offset → Point
+movedOf o x y q = record { x = biased (coordOf x +ℤ applied o q .dx); y = biased (coordOf y +ℤ applied o q .dy) }
+
+-- a row of zeros
+abbrev pub unused : Point
+unused = record { x = 0; y = 0 }
+
+-- "The pads of a symbol come as a block of three points with a count, unused points (0,0)."
+abbrev pub block : List Point → PadBlock
+block ps = record { points = take 3 (ps ++ (unused ∷ unused ∷ unused ∷ [])); count = length ps }
+
+-- the pads of a component
+abbrev pub padPoints : ℕ → RotMirror → ℕ → ℕ → List Point
+padPoints kind o x y = map (movedOf o x y) (padsAt kind)
+
+abbrev pub padBlock : ℕ → RotMirror → ℕ → ℕ → PadBlock
+padBlock kind o x y = block (padPoints kind o x y)
+
+-- the smallest box that has both points
+abbrev pub boxOf : Point → Point → Bounds
+boxOf p q = record {
+  low = record { x = min (p .x) (q .x); y = min (p .y) (q .y) };
+  high = record { x = max (p .x) (q .x); y = max (p .y) (q .y) };
+}
+
+-- the box of a component
+abbrev pub boundsAt : ℕ → RotMirror → ℕ → ℕ → Bounds
+boundsAt kind o x y = boxOf (movedOf o x y (lowAt kind)) (movedOf o x y (highAt kind))
+
+-- ---- "A box, pads or a turn asked of a bad kind, orientation or position get 4 or 1, in that order, and zeros for every number."
+unfoldable pub refusalOf : ℕ → RotMirror → ℕ → ℕ → ℕ
+refusalOf kind o x y = cond (leb kind 2 && known o) (cond (insideOf x && insideOf y) 0 1) 4
+
+abbrev pub padsFor : ℕ → PadBlock → PadsReply
+padsFor zero p = record { reply = 0; pads = p }
+padsFor (suc n) p = record { reply = suc n; pads = block [] }
+
+abbrev pub boundsFor : ℕ → Bounds → BoundsReply
+boundsFor zero b = record { reply = 0; bounds = b }
+boundsFor (suc n) b = record { reply = suc n; bounds = boxOf unused unused }
+
+unfoldable pub padsOf : ℕ → RotMirror → ℕ → ℕ → PadsReply
+padsOf kind o x y = padsFor (refusalOf kind o x y) (padBlock kind o x y)
+
+unfoldable pub aabbOf : ℕ → RotMirror → ℕ → ℕ → BoundsReply
+aabbOf kind o x y = boundsFor (refusalOf kind o x y) (boundsAt kind o x y)
+
+-- ---- boxes that share a point, edges counted
+abbrev pub touchesOf : Bounds → Bounds → Bool
+touchesOf a b = leb (a .low .x) (b .high .x) && (leb (b .low .x) (a .high .x) && (leb (a .low .y) (b .high .y) && leb (b .low .y) (a .high .y)))
+
+-- p lies in b, edges counted
+abbrev pub within : Point → Bounds → Bool
+within p b = leb (b .low .x) (p .x) && (leb (p .x) (b .high .x) && (leb (b .low .y) (p .y) && leb (p .y) (b .high .y)))
+
+-- ---- what is known of a component in a lawful drawing
+
+-- one of the eight orientations, and a position from -5,800 to 5,800
+pub record Sound (o : RotMirror) (x y : ℕ) : Type 0 where
+  pub turned : T (known o)
+  pub left : 200 ≤ x
+  pub right : x ≤ 11800
+  pub top : 200 ≤ y
+  pub bottom : y ≤ 11800
+
+-- and one of the three kinds
+pub record Placeable (kind : ℕ) (o : RotMirror) (x y : ℕ) : Type 0 where
+  pub of-kind : kind ≤ 2
+  pub sound : Sound o x y

@@ -1,0 +1,4 @@
+pub mod Cases
+pub mod Growing
+pub mod Cutting
+pub mod Merging

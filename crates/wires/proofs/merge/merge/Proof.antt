@@ -1,0 +1,99 @@
+-- A pass from the front: what is out, the wire still growing and what the rows left make of it are the whole.
+use Prim.Native.Nat.{_≤_, _<_, _-_}
+use mathlib.Core.Logic.{⊎-elim}
+use mathlib.Core.Path.{_≡_, sym, _∙_}
+use lib.ListN.{length}
+use Rattle.sheet.specs.Merge.{held, merge}
+use Rattle.sheet.specs.Drawings.{wireRows}
+use Rattle.lists.proofs.Tables.{long}
+use Rattle.wires.specs.Tables.{pointRows}
+use Rattle.wires.proofs.Merging.{Merging, merge-start, merge-join, merge-push, merge-end, merge-none}
+use borrow.Author.Needs.{needs}
+use native.Mathlib.Omega.{arith}
+use Rattle.wires.proofs.merge.merge.Statement.{statement}
+use Rattle.wires.proofs.merge.merge.Tie as tie
+
+abbrev Inv-loop : tie.InvT-loop
+Inv-loop pads ws n out₀ cur₀ i₀ out cur i = (1 ≤ i) × (i ≤ n) × (length (ws .rows) ≡ 512) × (out .count < i) × Merging (held (wireRows ws) (pointRows pads)) (merge (wireRows ws) (pointRows pads)) (ws .rows) n i cur (out .rows) (out .count)
+
+abbrev μ-loop : tie.MeasureT-loop
+μ-loop pads ws n out₀ cur₀ i₀ out cur i = n - i
+
+no-wires-requires : tie.Need-no-wires-requires Inv-loop μ-loop
+no-wires-requires c κs = tt
+
+returns : tie.Need-returns Inv-loop μ-loop
+returns c = merge-none _ _ _ (c .if1 .taken) (c .before .no-wires .ensures)
+
+element-copy-out-cur : tie.Need-element-copy-out-cur Inv-loop μ-loop
+element-copy-out-cur c = omega arith
+
+loop-holds : tie.Need-loop-holds Inv-loop μ-loop
+loop-holds c = let z = c .before .before .no-wires .ensures .count-is in let l : length (c .before .before .before .args .t1 .rows) ≡ 512 = search long in (omega arith, omega arith, l, omega arith, merge-start _ _ _ _ (c .before .before .no-wires .ensures) (omega arith) (omega arith))
+
+mul-b : tie.Need-mul-b Inv-loop μ-loop
+mul-b c = omega arith
+
+element-copy-out-b : tie.Need-element-copy-out-b Inv-loop μ-loop
+element-copy-out-b c = omega arith
+
+joins-requires : tie.Need-joins-requires Inv-loop μ-loop
+joins-requires c κs = search needs
+
+mul-cur : tie.Need-mul-cur Inv-loop μ-loop
+mul-cur c = omega arith
+
+element-set-from-cur : tie.Need-element-set-from-cur Inv-loop μ-loop
+element-set-from-cur c = omega arith
+
+add-out : tie.Need-add-out Inv-loop μ-loop
+add-out c = omega arith
+
+add-i : tie.Need-add-i Inv-loop μ-loop
+add-i c = omega arith
+
+loop-less : tie.Need-loop-less Inv-loop μ-loop
+loop-less c = omega arith
+
+loop-again : tie.Need-loop-again Inv-loop μ-loop
+loop-again c = let s = c .before .before .before .before .loop .inv .4 in
+    ⊎-elim
+    (λ v. (omega arith, omega arith, omega arith, rw (v .1) (omega arith), rw (v .1, v .2) (merge-join _ s (sym (c .before .joins .ensures) ∙ v .0 .taken) (omega arith) (omega arith))))
+    (λ v. (omega arith, omega arith, omega arith, rw (v .1) (omega arith), rw (v .1, v .2) (merge-push _ s (sym (c .before .joins .ensures) ∙ v .0 .left) (omega arith) (omega arith) (omega arith))))
+    (c .if2 .came)
+
+mul-cur-2 : tie.Need-mul-cur-2 Inv-loop μ-loop
+mul-cur-2 c = omega arith
+
+element-set-from-cur-2 : tie.Need-element-set-from-cur-2 Inv-loop μ-loop
+element-set-from-cur-2 c = omega arith
+
+add-out-2 : tie.Need-add-out-2 Inv-loop μ-loop
+add-out-2 c = omega arith
+
+returns-2 : tie.Need-returns-2 Inv-loop μ-loop
+returns-2 c = merge-end (c .before .loop .inv .4) (omega arith) (omega arith) (omega arith)
+
+pub merge-spec : {M : Type 1} → statement M
+merge-spec =
+    tie.close
+    (tie.spec
+    Inv-loop
+    μ-loop
+    no-wires-requires
+    returns
+    element-copy-out-cur
+    loop-holds
+    mul-b
+    element-copy-out-b
+    joins-requires
+    mul-cur
+    element-set-from-cur
+    add-out
+    add-i
+    loop-less
+    loop-again
+    mul-cur-2
+    element-set-from-cur-2
+    add-out-2
+    returns-2)
