@@ -6,7 +6,8 @@ use mathlib.Core.Bool.{true, false}
 use mathlib.Core.List.{List, _∷_, map}
 use mathlib.Core.Logic.{⊎-elim}
 use mathlib.Core.Path.{_≡_, refl, sym, ap, _∙_, subst}
-use lib.ListN.{length, take, getD}
+use lib.ListN.{length, take, getD, length-map}
+use lib.Seq.{length-take-le}
 use Rattle.lists.specs.Lists.{_∈_, any, insert}
 use Rattle.lists.proofs.Lists.{insert-in, length-insert}
 use Rattle.lists.proofs.Tables.{holds-as, holds-list, holds-self, holds-count}
@@ -90,3 +91,6 @@ module _ {whole : Placed} {alter : Component → Component} {rows : List Compone
 
 pub insert-count : (c : Component) {cs v : Components} → TabledParts (componentRows cs) cs → TabledParts (insert ahead c (componentRows cs)) v → v .count ≡ cs .count + 1
 insert-count c {cs} a b = omega (arith, a .count-is, b .count-is, length-insert ahead c (componentRows cs))
+
+pub hit-count : (alter : Component → Component) (t : Components) → t .count ≤ length (t .rows) → t .count ≡ length (map alter (componentRows t))
+hit-count alter t h = sym (length-map (componentRows t) alter ∙ length-take-le (t .count) (t .rows) h)

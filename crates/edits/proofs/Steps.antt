@@ -1,7 +1,7 @@
 -- Each edit's tables, from those of its steps.
 use Prim.Native.Nat.{ℕ, _+_, _≤_}
 use native.Mathlib.Omega.{arith}
-use mathlib.Core.Bool.{Bool, true, false, not, Bool·beq}
+use mathlib.Core.Bool.{Bool, false, not}
 use mathlib.Core.List.{List, map}
 use mathlib.Core.Path.{_≡_, refl, sym, ap, _∙_, subst}
 use lib.ListN.{length, length-map}
@@ -77,32 +77,18 @@ module _ (f : Wire → Bool) (g : Component → Bool) (s : Sheet) {left wires : 
 
 -- ---- turn
 
-is-hit : (b : Bool) → Bool·beq b true ≡ b
-is-hit true = refl
-is-hit false = refl
-
-is-not-hit : (b : Bool) → Bool·beq b false ≡ not b
-is-not-hit true = refl
-is-not-hit false = refl
-
 module _ (p : Point) (size : ℕ) {ws wires : Wires} {cs hs parts : Components} (s : Standing ws cs)
-    (a : TabledParts (keep (λ c. Bool·beq (hits p size c) true) (componentRows cs)) hs)
-    (b : TabledParts (keep (λ c. Bool·beq (hits p size c) false) (componentRows cs)) parts)
+    (a : TabledParts (keep (hits p size) (componentRows cs)) hs)
+    (b : TabledParts (keep (λ c. not (hits p size c)) (componentRows cs)) parts)
     (m : Tabled (merge (wireRows ws) (padsOf (componentRows parts))) wires) where
-  hit-tables : TabledParts (keep (hits p size) (componentRows cs)) hs
-  hit-tables = holds-as (λ i. keep (λ c. is-hit (hits p size c) i) (componentRows cs)) a
-
-  left-tables : TabledParts (keep (λ c. not (hits p size c)) (componentRows cs)) parts
-  left-tables = holds-as (λ i. keep (λ c. is-not-hit (hits p size c) i) (componentRows cs)) b
-
   pub turned-standing : Standing wires parts
-  turned-standing = record { wires = holds-self m; parts = holds-self b; fits = kept-fits (λ c. Bool·beq (hits p size c) false) (s .fits) b .each }
+  turned-standing = record { wires = holds-self m; parts = holds-self b; fits = kept-fits (λ c. not (hits p size c)) (s .fits) b .each }
 
   pub turned-hits : PartsFit hs
-  turned-hits = kept-fits (λ c. Bool·beq (hits p size c) true) (s .fits) a
+  turned-hits = kept-fits (hits p size) (s .fits) a
 
   pub turned-room : parts .count + hs .count ≤ 128
-  turned-room = omega (arith, length-parts (hits p size) (componentRows cs), hit-tables .count-is, left-tables .count-is, s .parts .room)
+  turned-room = omega (arith, length-parts (hits p size) (componentRows cs), a .count-is, b .count-is, s .parts .room)
 
   -- no wire is taken out, so the turn is what is placed again on what is left
   pub turned-is : (right : Bool) → placedAgain (map (altered right) (componentRows hs)) (sheetOf wires parts) ≡ turn (hits p size) (altered right) (sheetOf ws cs)
@@ -110,7 +96,7 @@ module _ (p : Point) (size : ℕ) {ws wires : Wires} {cs hs parts : Components} 
   turned-is right =
       let every : keep (λ w. not false) (wireRows ws) ≡ wireRows ws = keep-all (λ w. not-reads (test false)) (wireRows ws) (λ w k t. t) in
       let are : wireRows wires ≡ merge (keep (λ w. not false) (wireRows ws)) (padsOf (keep (λ c. not (hits p size c)) (componentRows cs))) =
-      holds-list m ∙ (λ i. merge (sym every i) (padsOf (holds-list left-tables i))) in
+      holds-list m ∙ (λ i. merge (sym every i) (padsOf (holds-list b i))) in
       let o = placeAll (map (altered right) (keep (hits p size) (componentRows cs))) (remove (λ w. false) (hits p size) (sheetOf ws cs)) in
-      (λ i. placedAgain (map (altered right) (holds-list hit-tables i)) (record { wires = are i; parts = holds-list left-tables i }))
+      (λ i. placedAgain (map (altered right) (holds-list a i)) (record { wires = are i; parts = holds-list b i }))
       ∙ (λ i. record { sheet = o .sheet; hit = length-map (keep (hits p size) (componentRows cs)) (altered right) i; lost = o .lost })

@@ -9,10 +9,10 @@ use crate::Made;
 use crate::answer;
 use crate::no_room;
 use parts::insert::insert_part;
+use parts::pads::pads_of;
 use sheet::Component;
 use sheet::Components;
 use sheet::Wires;
-use symbol::pads_at;
 use wires::Grown;
 use wires::split::split_pads;
 
@@ -21,8 +21,7 @@ pub(crate) fn split_at_pads(g: Grown, c: Component) -> Grown
     requires { ⌜ (g .table .count ≤ 512) × PartFits c ⌝ }
     ensures { λ r. ⌜ Cut (pads c) g r ⌝ }
 {
-    let o = c.rot_mirror;
-    let b = pads_at(c.kind, o, c.x, c.y);
+    let b = pads_of(c);
     let points = b.points;
     split_pads(g, points, b.count)
 }

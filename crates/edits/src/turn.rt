@@ -12,7 +12,8 @@ use crate::answer;
 use crate::delete::settled;
 use crate::place::split_at_pads;
 use parts::insert::insert_part;
-use parts::square::keep_contacts;
+use parts::square::hit_contacts;
+use parts::square::keep_unhit;
 use parts::touch::touches_any;
 use parts::turn::mirrored;
 use parts::turn::turned_right;
@@ -65,8 +66,8 @@ fn turn(ws: Wires, cs: Components, p: Point, size: u16, right: bool) -> Made
     requires { ⌜ Making.Standing ws cs × Making.Pointed p size ⌝ }
     ensures { λ r. ⌜ r ≡ Making.made (Edits.turn (Edits.hits p size) (Making.altered right) (Making.sheetOf ws cs)) ⌝ }
 {
-    let hits = keep_contacts(cs, p, size, true);
-    let parts = keep_contacts(cs, p, size, false);
+    let hits = hit_contacts(cs, p, size);
+    let parts = keep_unhit(cs, p, size);
     let wires = settled(ws, parts);
     place_all(wires, parts, hits, right)
 }
