@@ -2,3 +2,4 @@ pub mod Digits
 pub mod Sorting
 pub mod Keying
 pub mod Gathering
+pub mod Drawing
