@@ -22,7 +22,7 @@ use Rattle.wires.specs.declared.Grown.{Grown}
 use Rattle.wires.specs.Tables.{Grows, Cut}
 use Rattle.wires.proofs.Growing.{grows-room}
 use Rattle.parts.specs.Tables.{TabledParts, PartsFit}
-use Rattle.edits.specs.Making.{sheetOf, Standing}
+use Rattle.joints.specs.Tables.{sheetOf, Sound}
 
 -- n more are lost
 abbrev lose : ℕ → Placed → Placed
@@ -35,13 +35,13 @@ pub record Placing (whole : Placed) (alter : Component → Component) (rows : Li
   pub fits : (c : Component) → c ∈ sheet .parts → PartFits c
   pub rest : Rest (λ xs. lose lost (placeAll (map alter xs) sheet)) rows m i whole
 
-pub placing-start : (alter : Component → Component) (rows : List Component) (m : ℕ) {ws : Wires} {cs : Components} → Standing ws cs
+pub placing-start : (alter : Component → Component) (rows : List Component) (m : ℕ) {ws : Wires} {cs : Components} → Sound ws cs
     → Placing (placeAll (map alter (take m rows)) (sheetOf ws cs)) alter rows m 0 (record { full = false; table = ws }) cs 0
 placing-start alter rows m {ws} {cs} s = record {
   sheet = sheetOf ws cs;
   wires = grows-room _ refl (s .wires);
   parts = s .parts;
-  fits = s .fits;
+  fits = s .fits .each;
   rest = let o = placeAll (map alter (take m rows)) (sheetOf ws cs) in record { same = λ i. record { sheet = o .sheet; lost = sym (zero-add (o .lost)) i } };
 }
 

@@ -24,15 +24,13 @@ use Rattle.wires.specs.declared.Grown.{Grown}
 use Rattle.wires.specs.Tables.{Tabled, Grows, Cut}
 use Rattle.wires.proofs.Growing.{grows-room, grows-as}
 use Rattle.parts.specs.Tables.{TabledParts, PartsFit}
-use Rattle.edits.specs.Making.{quiet, noRoom, made, altered, placedAgain, sheetOf, Standing}
+use Rattle.joints.specs.Tables.{sheetOf, Sound}
+use Rattle.edits.specs.Making.{quiet, noRoom, made, altered, placedAgain}
 use Rattle.edits.proofs.Making.{made-none}
-
-pub standing-fits : {ws : Wires} {cs : Components} → Standing ws cs → PartsFit cs
-standing-fits s = record { room = holds-count (s .parts); each = s .fits }
 
 -- ---- wire
 
-module _ (n : Wire) {ws : Wires} {cs : Components} (s : Standing ws cs) where
+module _ (n : Wire) {ws : Wires} {cs : Components} (s : Sound ws cs) where
   pub idle-wires : n .start ≡ n .end → Grows (wire n (sheetOf ws cs) .wires) (record { full = false; table = ws })
   unfolding wire
   idle-wires e = grows-room _ refl (holds-as (sym (drawn-idle n e (wireRows ws) (padsOf (componentRows cs)))) (s .wires))
@@ -47,7 +45,7 @@ module _ (n : Wire) {ws : Wires} {cs : Components} (s : Standing ws cs) where
 
 -- ---- place
 
-module _ (c : Component) {ws : Wires} {cs : Components} (s : Standing ws cs) where
+module _ (c : Component) {ws : Wires} {cs : Components} (s : Sound ws cs) where
   pub placed-full : 128 ≤ cs .count → noRoom ≡ made (quiet (place c (sheetOf ws cs)))
   unfolding place
   placed-full h = sym (made-none _ (λ r. let m : length (insert ahead c (componentRows cs)) ≤ 128 = r .parts in omega (arith, length-insert ahead c (componentRows cs), s .parts .count-is)))
@@ -77,15 +75,15 @@ module _ (f : Wire → Bool) (g : Component → Bool) (s : Sheet) {left wires : 
 
 -- ---- turn
 
-module _ (p : Point) (size : ℕ) {ws wires : Wires} {cs hs parts : Components} (s : Standing ws cs)
+module _ (p : Point) (size : ℕ) {ws wires : Wires} {cs hs parts : Components} (s : Sound ws cs)
     (a : TabledParts (keep (hits p size) (componentRows cs)) hs)
     (b : TabledParts (keep (λ c. not (hits p size c)) (componentRows cs)) parts)
     (m : Tabled (merge (wireRows ws) (padsOf (componentRows parts))) wires) where
-  pub turned-standing : Standing wires parts
-  turned-standing = record { wires = holds-self m; parts = holds-self b; fits = kept-fits (λ c. not (hits p size c)) (s .fits) b .each }
+  pub turned-sound : Sound wires parts
+  turned-sound = record { wires = holds-self m; parts = holds-self b; fits = kept-fits (λ c. not (hits p size c)) (s .fits .each) b }
 
   pub turned-hits : PartsFit hs
-  turned-hits = kept-fits (hits p size) (s .fits) a
+  turned-hits = kept-fits (hits p size) (s .fits .each) a
 
   pub turned-room : parts .count + hs .count ≤ 128
   turned-room = omega (arith, length-parts (hits p size) (componentRows cs), a .count-is, b .count-is, s .parts .room)

@@ -4,16 +4,11 @@ use mathlib.Core.Bool.{Bool, true, false, _&&_, cond}
 use mathlib.Core.List.{List, []}
 use lib.Dec.{leb}
 use lib.ListN.{length}
-use Rattle.lists.specs.Lists.{_∈_}
 use Rattle.symbol.specs.declared.Point.{Point}
 use Rattle.sheet.specs.declared.Component.{Component}
-use Rattle.sheet.specs.declared.Wires.{Wires}
-use Rattle.sheet.specs.declared.Components.{Components}
-use Rattle.sheet.specs.Parts.{PartFits, turnedRight, mirrored}
-use Rattle.sheet.specs.Drawings.{Sheet, wireTable, componentTable, wireRows, componentRows}
+use Rattle.sheet.specs.Parts.{turnedRight, mirrored}
+use Rattle.sheet.specs.Drawings.{Sheet, wireTable, componentTable}
 use Rattle.sheet.specs.Edits.{Outcome, placeAll}
-use Rattle.wires.specs.Tables.{Tabled}
-use Rattle.parts.specs.Tables.{TabledParts}
 use Rattle.edits.specs.declared.Made.{Made}
 
 -- "the drawing after the edit would hold over 512 wires or 128 components": this says that it does not
@@ -45,16 +40,6 @@ abbrev pub placedAgain : List Component → Sheet → Outcome
 placedAgain cs s = record { sheet = placeAll cs s .sheet; hit = length cs; lost = placeAll cs s .lost }
 
 -- ---- what an edit counts on
-
--- the sheet that two tables hold
-abbrev pub sheetOf : Wires → Components → Sheet
-sheetOf ws cs = record { wires = wireRows ws; parts = componentRows cs }
-
--- tables as a lawful drawing has them: zero rows behind those in use, and each component meets the limits
-pub record Standing (ws : Wires) (cs : Components) : Type 0 where
-  pub wires : Tabled (wireRows ws) ws
-  pub parts : TabledParts (componentRows cs) cs
-  pub fits : (c : Component) → c ∈ componentRows cs → PartFits c
 
 -- a pointer and its size within their ranges
 pub record Pointed (p : Point) (n : ℕ) : Type 0 where

@@ -7,7 +7,8 @@ ghost use Rattle.sheet.specs.Edits;
 ghost use Rattle.sheet.specs.Drawings.{wireRows, componentRows};
 ghost use Rattle.wires.specs.Tables.{Tabled};
 ghost use Rattle.parts.specs.Tables.{PartsFit};
-ghost use Rattle.edits.specs.Making.{quiet, made, sheetOf, Standing, Pointed};
+ghost use Rattle.joints.specs.Tables.{sheetOf, Sound};
+ghost use Rattle.edits.specs.Making.{quiet, made, Pointed};
 use crate::Made;
 use crate::answer;
 use parts::pads::all_pads;
@@ -30,7 +31,7 @@ pub(crate) fn settled(ws: Wires, cs: Components) -> Wires
 
 // Without the wires and components that the square about the pointer meets.
 pub fn delete(ws: Wires, cs: Components, p: Point, size: u16) -> Made
-    requires { ⌜ Standing ws cs × Pointed p size ⌝ }
+    requires { ⌜ Sound ws cs × Pointed p size ⌝ }
     ensures { λ r. ⌜ r ≡ made (quiet (Edits.delete p size (sheetOf ws cs))) ⌝ }
 {
     let left = keep_unhit(ws, p, size);

@@ -1,7 +1,8 @@
 // A new wire.
 ghost use mathlib.Core.Path.{_≡_};
 ghost use Rattle.sheet.specs.Edits.{wire};
-ghost use Rattle.edits.specs.Making.{quiet, made, sheetOf, Standing};
+ghost use Rattle.joints.specs.Tables.{sheetOf, Sound};
+ghost use Rattle.edits.specs.Making.{quiet, made};
 use crate::Made;
 use crate::answer;
 use parts::pads::all_pads;
@@ -13,7 +14,7 @@ use wires::draw::add_wire;
 
 // The new wire among the others; one of zero length changes nothing.
 pub fn draw(ws: Wires, cs: Components, n: Wire) -> Made
-    requires { ⌜ Standing ws cs ⌝ }
+    requires { ⌜ Sound ws cs ⌝ }
     ensures { λ r. ⌜ r ≡ made (quiet (wire n (sheetOf ws cs))) ⌝ }
 {
     if n.start == n.end {

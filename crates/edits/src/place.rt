@@ -4,7 +4,8 @@ ghost use Prim.Native.Nat.{_≤_};
 ghost use Rattle.sheet.specs.Parts.{PartFits, pads};
 ghost use Rattle.sheet.specs.Edits;
 ghost use Rattle.wires.specs.Tables.{Cut};
-ghost use Rattle.edits.specs.Making.{quiet, made, sheetOf, Standing};
+ghost use Rattle.joints.specs.Tables.{sheetOf, Sound};
+ghost use Rattle.edits.specs.Making.{quiet, made};
 use crate::Made;
 use crate::answer;
 use crate::no_room;
@@ -28,7 +29,7 @@ pub(crate) fn split_at_pads(g: Grown, c: Component) -> Grown
 
 // The component goes in, whether it touches another or not: who places it asks first.
 pub fn place(ws: Wires, cs: Components, c: Component) -> Made
-    requires { ⌜ Standing ws cs × PartFits c ⌝ }
+    requires { ⌜ Sound ws cs × PartFits c ⌝ }
     ensures { λ r. ⌜ r ≡ made (quiet (Edits.place c (sheetOf ws cs))) ⌝ }
 {
     if cs.count >= 128 {

@@ -6,6 +6,7 @@ ghost use Rattle.sheet.specs.Parts.{PartFits};
 ghost use Rattle.sheet.specs.Edits;
 ghost use Rattle.sheet.specs.Drawings.{componentRows};
 ghost use Rattle.parts.specs.Tables.{PartsFit};
+ghost use Rattle.joints.specs.Tables.{sheetOf, Sound};
 ghost use Rattle.edits.specs.Making;
 use crate::Made;
 use crate::answer;
@@ -36,8 +37,8 @@ fn altered(c: Component, right: bool) -> Component
 
 // Each component hit is altered and placed in turn; one that would touch a component is lost.
 fn place_all(ws: Wires, cs: Components, hits: Components, right: bool) -> Made
-    requires { ⌜ Making.Standing ws cs × (PartsFit hits × (cs .count + hits .count ≤ 128)) ⌝ }
-    ensures { λ r. ⌜ r ≡ Making.made (Making.placedAgain (map (Making.altered right) (componentRows hits)) (Making.sheetOf ws cs)) ⌝ }
+    requires { ⌜ Sound ws cs × (PartsFit hits × (cs .count + hits .count ≤ 128)) ⌝ }
+    ensures { λ r. ⌜ r ≡ Making.made (Making.placedAgain (map (Making.altered right) (componentRows hits)) (sheetOf ws cs)) ⌝ }
 {
     let m = hits.count;
     let mut g = Grown {
@@ -63,8 +64,8 @@ fn place_all(ws: Wires, cs: Components, hits: Components, right: bool) -> Made
 
 // The contacts that the square meets are taken out, the wires merged, and each placed again, altered, by rising position.
 fn turn(ws: Wires, cs: Components, p: Point, size: u16, right: bool) -> Made
-    requires { ⌜ Making.Standing ws cs × Making.Pointed p size ⌝ }
-    ensures { λ r. ⌜ r ≡ Making.made (Edits.turn (Edits.hits p size) (Making.altered right) (Making.sheetOf ws cs)) ⌝ }
+    requires { ⌜ Sound ws cs × Making.Pointed p size ⌝ }
+    ensures { λ r. ⌜ r ≡ Making.made (Edits.turn (Edits.hits p size) (Making.altered right) (sheetOf ws cs)) ⌝ }
 {
     let hits = hit_contacts(cs, p, size);
     let parts = keep_unhit(cs, p, size);
@@ -73,15 +74,15 @@ fn turn(ws: Wires, cs: Components, p: Point, size: u16, right: bool) -> Made
 }
 
 pub fn turn_right(ws: Wires, cs: Components, p: Point, size: u16) -> Made
-    requires { ⌜ Making.Standing ws cs × Making.Pointed p size ⌝ }
-    ensures { λ r. ⌜ r ≡ Making.made (Edits.turnRight p size (Making.sheetOf ws cs)) ⌝ }
+    requires { ⌜ Sound ws cs × Making.Pointed p size ⌝ }
+    ensures { λ r. ⌜ r ≡ Making.made (Edits.turnRight p size (sheetOf ws cs)) ⌝ }
 {
     turn(ws, cs, p, size, true)
 }
 
 pub fn mirror(ws: Wires, cs: Components, p: Point, size: u16) -> Made
-    requires { ⌜ Making.Standing ws cs × Making.Pointed p size ⌝ }
-    ensures { λ r. ⌜ r ≡ Making.made (Edits.mirror p size (Making.sheetOf ws cs)) ⌝ }
+    requires { ⌜ Sound ws cs × Making.Pointed p size ⌝ }
+    ensures { λ r. ⌜ r ≡ Making.made (Edits.mirror p size (sheetOf ws cs)) ⌝ }
 {
     turn(ws, cs, p, size, false)
 }

@@ -3,7 +3,7 @@ use mathlib.Core.Path.{refl}
 use Rattle.lists.proofs.Tables.{holds-count}
 use Rattle.sheet.specs.Edits.{meetsWire, meetsPart, delete}
 use Rattle.wires.proofs.Growing.{grows-room}
-use Rattle.edits.specs.Making.{sheetOf}
+use Rattle.joints.specs.Tables.{sheetOf}
 use Rattle.edits.proofs.Steps.{kept-fits, removed-wires, removed-parts}
 use borrow.Author.Needs.{needs}
 use Rattle.edits.proofs.delete.delete.Statement.{statement}
@@ -16,7 +16,7 @@ keep-unmet-requires : tie.Need-keep-unmet-requires
 keep-unmet-requires c κs = search needs
 
 settled-requires : tie.Need-settled-requires
-settled-requires c κs = (holds-count (c .before .keep-unhit .ensures), kept-fits _ (c .before .before .pre .0 .fits) (c .keep-unmet .ensures))
+settled-requires c κs = (holds-count (c .before .keep-unhit .ensures), kept-fits _ (c .before .before .pre .0 .fits .each) (c .keep-unmet .ensures))
 
 answer-requires : tie.Need-answer-requires
 answer-requires c κs = search needs

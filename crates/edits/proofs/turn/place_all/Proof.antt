@@ -11,7 +11,8 @@ use Rattle.sheet.specs.Edits.{placeAll}
 use Rattle.sheet.specs.Drawings.{componentRows}
 use Rattle.wires.proofs.Growing.{grows-count}
 use Rattle.parts.proofs.Fitting.{row-fits}
-use Rattle.edits.specs.Making.{altered, sheetOf}
+use Rattle.joints.specs.Tables.{sheetOf}
+use Rattle.edits.specs.Making.{altered}
 use Rattle.edits.proofs.Placing.{Placing, placing-start, placing-fits, placing-parts, placing-lost, placing-placed, placing-end, insert-count, hit-count}
 use Rattle.edits.proofs.turn.place_all.Statement.{statement}
 use Rattle.edits.proofs.turn.place_all.Tie as tie

@@ -2,7 +2,7 @@
 use mathlib.Core.Path.{ap, _∙_}
 use Rattle.lists.proofs.Tables.{holds-count}
 use Rattle.edits.specs.Making.{made}
-use Rattle.edits.proofs.Steps.{kept-fits, turned-standing, turned-hits, turned-room, turned-is}
+use Rattle.edits.proofs.Steps.{kept-fits, turned-sound, turned-hits, turned-room, turned-is}
 use borrow.Author.Needs.{needs}
 use Rattle.edits.proofs.turn.turn.Statement.{statement}
 use Rattle.edits.proofs.turn.turn.Tie as tie
@@ -14,7 +14,7 @@ keep-unhit-requires : tie.Need-keep-unhit-requires
 keep-unhit-requires c κs = search needs
 
 settled-requires : tie.Need-settled-requires
-settled-requires c κs = (holds-count (c .before .before .pre .0 .wires), kept-fits _ (c .before .before .pre .0 .fits) (c .keep-unhit .ensures))
+settled-requires c κs = (holds-count (c .before .before .pre .0 .wires), kept-fits _ (c .before .before .pre .0 .fits .each) (c .keep-unhit .ensures))
 
 place-all-requires : tie.Need-place-all-requires
 place-all-requires c κs =
@@ -22,7 +22,7 @@ place-all-requires c κs =
     let a = c .before .before .hit-contacts .ensures in
     let b = c .before .keep-unhit .ensures in
     let m = c .settled .ensures in
-    (turned-standing (s .args .p) (s .args .size) (s .pre .0) a b m, (turned-hits (s .args .p) (s .args .size) (s .pre .0) a b m, turned-room (s .args .p) (s .args .size) (s .pre .0) a b m))
+    (turned-sound (s .args .p) (s .args .size) (s .pre .0) a b m, (turned-hits (s .args .p) (s .args .size) (s .pre .0) a b m, turned-room (s .args .p) (s .args .size) (s .pre .0) a b m))
 
 returns : tie.Need-returns
 returns c =
