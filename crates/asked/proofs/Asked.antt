@@ -29,7 +29,7 @@ not-false {b = true} e = refl
 not-false {b = false} e = sym e
 
 -- both tests pass
-both : (a b : Bool) → (a && b) ≡ true → (a ≡ true) × (b ≡ true)
+pub both : (a b : Bool) → (a && b) ≡ true → (a ≡ true) × (b ≡ true)
 both true b e = (refl, e)
 both false b e = absurd (let y : _≡_ {A = ℕ} 0 1 = cc in omega arith)
 
