@@ -60,9 +60,9 @@ sized (pos n) e = go (leb n 1000) refl e
 -- ---- what is asked
 
 module _ (v : Bool) (l s e : ℤ) where
-  pub wire-drawable : askedWire v l s e .reply ≡ 0 → Drawable (askedWire v l s e .wire)
+  pub wire-drawable : {a : AskedWire} → a ≡ askedWire v l s e → a .reply ≡ 0 → Drawable (a .wire)
   unfolding askedWire
-  wire-drawable z = go (ranged 6000 l && (ranged 6000 s && ranged 6000 e)) (leZ s e) refl refl z
+  wire-drawable q = subst (λ (a : AskedWire). a .reply ≡ 0 → Drawable (a .wire)) (sym q) (go (ranged 6000 l && (ranged 6000 s && ranged 6000 e)) (leZ s e) refl refl)
     where
       A : Bool → Bool → AskedWire
       A a b = cond a (cond b (record { reply = 0; wire = wireAt v l s e }) (noWire 2)) (noWire 1)
@@ -79,9 +79,9 @@ module _ (v : Bool) (l s e : ℤ) where
   wire-handed f g h = λ i. askedWire v (toZ-ofZ {w = w32} {z = l} f i) (toZ-ofZ {w = w32} {z = s} g i) (toZ-ofZ {w = w32} {z = e} h i)
 
 module _ (k : ℕ) (o : RotMirror) (x y : ℤ) (l : Label) where
-  pub part-fits : askedPart k o x y l .reply ≡ 0 → PartFits (askedPart k o x y l .part)
+  pub part-fits : {a : AskedPart} → a ≡ askedPart k o x y l → a .reply ≡ 0 → PartFits (a .part)
   unfolding askedPart
-  part-fits z = go (leb k 2 && known o) (ranged 5800 x && ranged 5800 y) (eqb (heldLabel l .reply) 0) refl refl refl z
+  part-fits q = subst (λ (a : AskedPart). a .reply ≡ 0 → PartFits (a .part)) (sym q) (go (leb k 2 && known o) (ranged 5800 x && ranged 5800 y) (eqb (heldLabel l .reply) 0) refl refl refl)
     where
       A : Bool → Bool → Bool → AskedPart
       A a b c = cond a (cond b (cond c (record { reply = 0; part = componentAt k o x y l }) (noPart 5)) (noPart 1)) (noPart 4)
@@ -98,16 +98,22 @@ module _ (k : ℕ) (o : RotMirror) (x y : ℤ) (l : Label) where
   pub part-handed : SFits w32 x → SFits w32 y → askedPart k o (toZ w32 (ofZ w32 x)) (toZ w32 (ofZ w32 y)) l ≡ askedPart k o x y l
   part-handed f g = λ i. askedPart k o (toZ-ofZ {w = w32} {z = x} f i) (toZ-ofZ {w = w32} {z = y} g i) l
 
+-- the pointer and its size are within their ranges
+pub record Near (a : AskedPointer) : Type 0 where
+  pub x : a .point .x ≤ 12000
+  pub y : a .point .y ≤ 12000
+  pub size : a .size ≤ 1000
+
 module _ (x y n : ℤ) where
-  pub pointer-near : askedPointer x y n .reply ≡ 0 → (askedPointer x y n .point .x ≤ 12000) × ((askedPointer x y n .point .y ≤ 12000) × (askedPointer x y n .size ≤ 1000))
+  pub pointer-near : {a : AskedPointer} → a ≡ askedPointer x y n → a .reply ≡ 0 → Near a
   unfolding askedPointer
-  pointer-near z = go (ranged 6000 x && ranged 6000 y) (eqb (sizedReply (sizeOf n)) 0) refl refl z
+  pointer-near q = subst (λ (a : AskedPointer). a .reply ≡ 0 → Near a) (sym q) (go (ranged 6000 x && ranged 6000 y) (eqb (sizedReply (sizeOf n)) 0) refl refl)
     where
       A : Bool → Bool → AskedPointer
       A a b = cond a (cond b (record { reply = 0; point = pointAt x y; size = toℕ n }) (noPointer 3)) (noPointer 1)
 
-      go : (a b : Bool) → (ranged 6000 x && ranged 6000 y) ≡ a → eqb (sizedReply (sizeOf n)) 0 ≡ b → A a b .reply ≡ 0 → (A a b .point .x ≤ 12000) × ((A a b .point .y ≤ 12000) × (A a b .size ≤ 1000))
-      go true true p q z = let a = both (ranged 6000 x) (ranged 6000 y) p in (near x (a .0), (near y (a .1), sized n q))
+      go : (a b : Bool) → (ranged 6000 x && ranged 6000 y) ≡ a → eqb (sizedReply (sizeOf n)) 0 ≡ b → A a b .reply ≡ 0 → Near (A a b)
+      go true true p q z = let a = both (ranged 6000 x) (ranged 6000 y) p in record { x = near x (a .0); y = near y (a .1); size = sized n q }
       go true false p q z = absurd (omega arith)
       go false b p q z = absurd (omega arith)
 

@@ -53,7 +53,7 @@ addComponent d kind o x y label t =
     (edited d t (quiet (place c (listsOf d)))))))
 
 -- the pointer and a size are in their ranges, else 1 or 3
-abbrev pub pointed : Drawing → ℤ → ℤ → ℤ → Tally → (Point → ℕ → Outcome) → Edited
+unfoldable pub pointed : Drawing → ℤ → ℤ → ℤ → Tally → (Point → ℕ → Outcome) → Edited
 pointed d x y size t edit =
     unless (ranged 6000 x && ranged 6000 y) 1 d t
     (unless (eqb (sizedReply (sizeOf size)) 0) 3 d t
