@@ -88,7 +88,7 @@ pub fn label_part(bytes: &[u8]) -> &[u8]
 }
 
 // Whether the bytes from i on are all zero.
-fn zeros_from(bytes: &[u8], i: usize) -> bool
+pub fn zeros_from(bytes: &[u8], i: usize) -> bool
     ensures { λ r. ⌜ r ≡ allZero (drop i (now (bytes .entry))) ⌝ }
 {
     let mut k = i;

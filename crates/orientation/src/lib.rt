@@ -17,7 +17,7 @@ pub struct Turned {
     pub turn: RotMirror,
 }
 
-fn same(o: RotMirror, p: RotMirror) -> bool
+pub fn same(o: RotMirror, p: RotMirror) -> bool
     ensures { λ r. ⌜ r ≡ sameOf o p ⌝ }
 {
     (o.0 == p.0) & ((o.1 == p.1) & ((o.2 == p.2) & (o.3 == p.3)))
