@@ -1,3 +1,4 @@
+pub mod Handed
 pub mod Ranges
 pub mod Asked
 pub mod Within

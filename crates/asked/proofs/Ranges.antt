@@ -7,7 +7,7 @@ use lib.Dec.{eqb, leb}
 use lib.IntN.{ℤ, pos, negsuc}
 use lib.Signed.{leZ}
 use mir.Syntax.{w32}
-use mir.Val.{SFits, toZ, ofZ}
+use mir.Val.{SFits}
 use mir.Facts.{toZ-ofZ}
 use Rattle.edge.specs.Coordinates.{biased, placeOf, toℕ, sizedReply, sizeOf}
 use Rattle.edge.specs.declared.Placed.{Placed}
@@ -17,6 +17,7 @@ use Rattle.edge.specs.declared.Sized.the-variants.{Is, Wrong}
 use Rattle.asked.specs.declared.Found.{Found}
 use Rattle.asked.specs.Asked.{ranged}
 use Rattle.asked.specs.Rows.{rowOf, sizeRow}
+use Rattle.asked.proofs.Handed.{bits, handed-two}
 
 -- r tells whether the test b passes, and if so it holds n
 pub record Tells (b : Bool) (n : ℕ) (r : Found) : Type 0 where
@@ -42,12 +43,12 @@ size-tells (pos n) = go (leb n 1000)
 
 -- z as it reaches `edge` comes out of its bits as it was
 module _ (z : ℤ) (f : SFits w32 z) {r : Found} where
-  pub in-range : (k : ℕ) {p : Placed} → p ≡ placeOf k (toZ w32 (ofZ w32 z)) → r ≡ rowOf p → Tells (ranged k z) (biased z) r
+  pub in-range : (k : ℕ) {p : Placed} → p ≡ placeOf k (bits z) → r ≡ rowOf p → Tells (ranged k z) (biased z) r
   in-range k e q = rw (q ∙ ap rowOf (e ∙ ap (placeOf k) (toZ-ofZ {w = w32} {z = z} f))) (row-tells k z)
 
-  pub in-size : {s : Sized} → s ≡ sizeOf (toZ w32 (ofZ w32 z)) → r ≡ sizeRow s → Tells (eqb (sizedReply (sizeOf z)) 0) (toℕ z) r
+  pub in-size : {s : Sized} → s ≡ sizeOf (bits z) → r ≡ sizeRow s → Tells (eqb (sizedReply (sizeOf z)) 0) (toℕ z) r
   in-size e q = rw (q ∙ ap sizeRow (e ∙ ap sizeOf (toZ-ofZ {w = w32} {z = z} f))) (size-tells z)
 
 -- and so do two numbers that are compared
-pub order-kept : (a b : ℤ) → SFits w32 a → SFits w32 b → {t : Bool} → leZ (toZ w32 (ofZ w32 a)) (toZ w32 (ofZ w32 b)) ≡ t → leZ a b ≡ t
-order-kept a b f g e = (λ i. leZ (sym (toZ-ofZ {w = w32} {z = a} f) i) (sym (toZ-ofZ {w = w32} {z = b} g) i)) ∙ e
+pub order-kept : (a b : ℤ) → SFits w32 a → SFits w32 b → {t : Bool} → leZ (bits a) (bits b) ≡ t → leZ a b ≡ t
+order-kept a b f g e = sym (handed-two leZ a b f g) ∙ e

@@ -1,4 +1,4 @@
--- What is asked and not refused is within the limits; and it is told the same of numbers that are handed on.
+-- What is asked and not refused is within the limits.
 use Prim.Native.Nat.{ℕ, suc, _≤_}
 use native.Mathlib.Omega.{arith}
 use mathlib.Core.Bool.{Bool, true, false, _&&_, cond}
@@ -7,9 +7,6 @@ use borrow.Author.Tests.{leb-true}
 use lib.Dec.{T, eqb, leb, leb→le, eqb→eq}
 use lib.IntN.{ℤ, pos, negsuc, natAbs}
 use lib.Signed.{leZ}
-use mir.Syntax.{w32}
-use mir.Val.{SFits, toZ, ofZ}
-use mir.Facts.{toZ-ofZ}
 use Rattle.lists.proofs.Tests.{both-l, both-r}
 use Rattle.edge.specs.Coordinates.{biased, insideOf, toℕ, sizedReply, sizeOf}
 use Rattle.edge.specs.declared.Sized.the-variants.{Is, Wrong}
@@ -75,9 +72,6 @@ module _ (v : Bool) (l s e : ℤ) where
       go true false p q z = absurd (omega arith)
       go false b p q z = absurd (omega arith)
 
-  pub wire-handed : SFits w32 l → SFits w32 s → SFits w32 e → askedWire v (toZ w32 (ofZ w32 l)) (toZ w32 (ofZ w32 s)) (toZ w32 (ofZ w32 e)) ≡ askedWire v l s e
-  wire-handed f g h = λ i. askedWire v (toZ-ofZ {w = w32} {z = l} f i) (toZ-ofZ {w = w32} {z = s} g i) (toZ-ofZ {w = w32} {z = e} h i)
-
 module _ (k : ℕ) (o : RotMirror) (x y : ℤ) (l : Label) where
   pub part-fits : {a : AskedPart} → a ≡ askedPart k o x y l → a .reply ≡ 0 → PartFits (a .part)
   unfolding askedPart
@@ -94,9 +88,6 @@ module _ (k : ℕ) (o : RotMirror) (x y : ℤ) (l : Label) where
       go true true false p q r z = absurd (omega arith)
       go true false c p q r z = absurd (omega arith)
       go false b c p q r z = absurd (omega arith)
-
-  pub part-handed : SFits w32 x → SFits w32 y → askedPart k o (toZ w32 (ofZ w32 x)) (toZ w32 (ofZ w32 y)) l ≡ askedPart k o x y l
-  part-handed f g = λ i. askedPart k o (toZ-ofZ {w = w32} {z = x} f i) (toZ-ofZ {w = w32} {z = y} g i) l
 
 -- the pointer and its size are within their ranges
 pub record Near (a : AskedPointer) : Type 0 where
@@ -116,6 +107,3 @@ module _ (x y n : ℤ) where
       go true true p q z = let a = both (ranged 6000 x) (ranged 6000 y) p in record { x = near x (a .0); y = near y (a .1); size = sized n q }
       go true false p q z = absurd (omega arith)
       go false b p q z = absurd (omega arith)
-
-  pub pointer-handed : SFits w32 x → SFits w32 y → SFits w32 n → askedPointer (toZ w32 (ofZ w32 x)) (toZ w32 (ofZ w32 y)) (toZ w32 (ofZ w32 n)) ≡ askedPointer x y n
-  pointer-handed f g h = λ i. askedPointer (toZ-ofZ {w = w32} {z = x} f i) (toZ-ofZ {w = w32} {z = y} g i) (toZ-ofZ {w = w32} {z = n} h i)

@@ -2,3 +2,4 @@ pub mod Finishing
 pub mod Asking
 pub mod Keeping
 pub mod Laws
+pub mod Idle

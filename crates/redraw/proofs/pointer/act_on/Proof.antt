@@ -3,7 +3,9 @@ use mathlib.Core.Path.{_∙_}
 use Rattle.sheet.specs.Drawings.{listsOf}
 use Rattle.sheet.proofs.Owned.{owned}
 use Rattle.sheet.proofs.Rules.{lawful-good}
-use Rattle.asked.proofs.Within.{pointer-handed, pointer-near}
+use Rattle.asked.specs.Asked.{askedPointer}
+use Rattle.asked.proofs.Handed.{handed-three}
+use Rattle.asked.proofs.Within.{pointer-near}
 use Rattle.redraw.specs.Acts.{acted}
 use Rattle.redraw.proofs.Asking.{pointer-decides}
 use Rattle.redraw.proofs.Finishing.{made-sound}
@@ -20,11 +22,11 @@ refused-requires c κs = search needs
 
 returns : tie.Need-returns
 returns c = let s = c .before .before .before .before in
-    c .refused .ensures ∙ pointer-decides (s .args .d) _ _ _ (s .args .t) (λ p n. acted (s .args .act) p n (listsOf (s .args .d))) (c .before .before .before .asked-pointer .ensures ∙ pointer-handed _ _ _ (s .fits .x) (s .fits .y) (s .fits .size)) .refuses (c .before .if1 .taken)
+    c .refused .ensures ∙ pointer-decides (s .args .d) _ _ _ (s .args .t) (λ p n. acted (s .args .act) p n (listsOf (s .args .d))) (c .before .before .before .asked-pointer .ensures ∙ handed-three askedPointer _ _ _ (s .fits .x) (s .fits .y) (s .fits .size)) .refuses (c .before .if1 .taken)
 
 acted-requires : tie.Need-acted-requires
 acted-requires c κs = let s = c .before .before .before .before .before .before in
-    (lawful-sound (s .pre) (owned _ _ (s .good .0 .1 .1)), near-pointed (pointer-near _ _ _ (c .before .before .before .before .before .asked-pointer .ensures ∙ pointer-handed _ _ _ (s .fits .x) (s .fits .y) (s .fits .size)) (c .before .before .before .if1 .left)))
+    (lawful-sound (s .pre) (owned _ _ (s .good .0 .1 .1)), near-pointed (pointer-near _ _ _ (c .before .before .before .before .before .asked-pointer .ensures ∙ handed-three askedPointer _ _ _ (s .fits .x) (s .fits .y) (s .fits .size)) (c .before .before .before .if1 .left)))
 
 finished-requires : tie.Need-finished-requires
 finished-requires c κs = let s = c .before .before .before .before .before .before .before in
@@ -32,7 +34,7 @@ finished-requires c κs = let s = c .before .before .before .before .before .bef
 
 returns-2 : tie.Need-returns-2
 returns-2 c = let s = c .before .before .before .before .before .before .before .before in
-    c .finished .ensures _ (c .before .acted .ensures) ∙ pointer-decides (s .args .d) _ _ _ (s .args .t) (λ p n. acted (s .args .act) p n (listsOf (s .args .d))) (c .before .before .before .before .before .before .before .asked-pointer .ensures ∙ pointer-handed _ _ _ (s .fits .x) (s .fits .y) (s .fits .size)) .makes (c .before .before .before .before .before .if1 .left)
+    c .finished .ensures _ (c .before .acted .ensures) ∙ pointer-decides (s .args .d) _ _ _ (s .args .t) (λ p n. acted (s .args .act) p n (listsOf (s .args .d))) (c .before .before .before .before .before .before .before .asked-pointer .ensures ∙ handed-three askedPointer _ _ _ (s .fits .x) (s .fits .y) (s .fits .size)) .makes (c .before .before .before .before .before .if1 .left)
 
 pub act-on-spec : {M : Type 1} → statement M
 act-on-spec =

@@ -1,0 +1,143 @@
+-- What edits do not do: lose more than they hit, or anything by a mirror; find no room for a delete; change a drawing by a wire drawn
+-- again or of zero length, or where nothing is met.
+use Prim.Native.Nat.{ℕ, _≤_, _<_}
+use native.Mathlib.Omega.{arith}
+use mathlib.Core.Bool.{Bool, true, false, _&&_, not}
+use mathlib.Core.List.{List}
+use mathlib.Core.Path.{_≡_, refl, sym, ap, subst, _∙_}
+use lib.Dec.{T, eqb}
+use lib.IntN.{ℤ}
+use lib.Signed.{leZ, ≤ℤ-refl}
+use lib.ListN.{length}
+use Rattle.lists.specs.Lists.{_∈_}
+use Rattle.lists.proofs.Lists.{length-keep}
+use Rattle.lists.proofs.Tests.{agree}
+use Rattle.edge.specs.Coordinates.{toℕ, sizedReply, sizeOf}
+use Rattle.symbol.specs.declared.Point.{Point}
+use Rattle.sheet.specs.declared.Wire.{Wire}
+use Rattle.sheet.specs.declared.Component.{Component}
+use Rattle.sheet.specs.declared.Drawing.{Drawing}
+use Rattle.sheet.specs.declared.Tally.{Tally}
+use Rattle.sheet.specs.Parts.{padsOf, turnedRight, mirrored}
+use Rattle.sheet.specs.Drawings.{Sheet, Sized, listsOf, drawn, tallyOf}
+use Rattle.sheet.specs.Wiring.{Room}
+use Rattle.sheet.specs.Rules.{Lawful}
+use Rattle.sheet.specs.Edits.{wire, place, remove, delete, meetsPart, meetsWire, hits, turnRight, mirror}
+use Rattle.sheet.proofs.Rules.{lawful-good, lawful-room, lawful-drawn, drawn-lists}
+use Rattle.sheet.proofs.Edits.{wire-again, remove-nothing}
+use Rattle.sheet.proofs.Run.{drawn-idle}
+use Rattle.sheet.proofs.Room.{remove-no-longer}
+use Rattle.sheet.proofs.Turn.{turn-lost, turn-nothing, mirror-safe}
+use Rattle.asked.specs.Asked.{ranged, wireAt, pointAt, askedWire}
+use Rattle.asked.proofs.Within.{wire-drawable}
+use Rattle.edits.specs.Making.{quiet}
+use Rattle.redraw.specs.declared.Edited.{Edited}
+use Rattle.redraw.specs.declared.pointer.Act.{Act}
+use Rattle.redraw.specs.declared.pointer.Act.the-variants.{Delete, TurnRight, Mirror}
+use Rattle.redraw.specs.Acts.{acted}
+use Rattle.redraw.specs.Calls.{unless, edited, addWire, pointed, deleteAt, mirrorAt}
+use Rattle.redraw.proofs.Finishing.{edited-room}
+use Rattle.redraw.proofs.Asking.{wire-decides, pointer-decides}
+use Rattle.redraw.proofs.Laws.{by-reply, by-room}
+
+abbrev Outweighed : Edited → Type 0
+Outweighed e = e .lost ≤ e .hit
+
+abbrev Lossless : Edited → Type 0
+Lossless e = e .lost ≡ 0
+
+abbrev Roomy : Edited → Type 0
+Roomy e = e .reply ≡ 7 → ⊥
+
+below-seven : (n : ℕ) → n < 7 → n ≡ 7 → ⊥
+below-seven n h e = omega arith
+
+-- the wire drawn again changes nothing
+abbrev Again : Bool → ℤ → ℤ → ℤ → Tally → Edited → Type 0
+Again v a s e u r = r .reply ≡ 0 → addWire (r .drawing) v a s e u ≡ r
+
+module _ {d : Drawing} (l : Lawful d) (t : Tally) where
+  -- ---- hit and lost
+
+  acted-lost : (a : Act) (p : Point) (n : ℕ) (s : Sheet) → acted a p n s .lost ≤ acted a p n s .hit
+  unfolding turnRight mirror
+  acted-lost Delete p n s = omega arith
+  acted-lost TurnRight p n s = turn-lost (hits p n) turnedRight s
+  acted-lost Mirror p n s = turn-lost (hits p n) mirrored s
+
+  -- no more are lost than are hit
+  pub act-lost : (a : Act) (x y n : ℤ) → pointed d x y n t (λ p m. acted a p m (listsOf d)) .lost ≤ pointed d x y n t (λ p m. acted a p m (listsOf d)) .hit
+  act-lost a x y n =
+      by-reply Outweighed (pointer-decides d x y n t (λ p m. acted a p m (listsOf d)) refl) (λ f. omega arith) (λ z. by-room Outweighed (acted a _ _ (listsOf d)) (omega arith) (λ r. acted-lost a _ _ (listsOf d)))
+
+  -- "Hit and lost are 0 for wire, place and delete"; and a mirror loses nothing
+  pub mirror-keeps : (x y n : ℤ) → mirrorAt d x y n t .lost ≡ 0
+  unfolding mirrorAt
+  mirror-keeps x y n =
+      by-reply Lossless (pointer-decides d x y n t (λ p m. mirror p m (listsOf d)) refl) (λ f. refl) (λ z. by-room Lossless (mirror _ _ (listsOf d)) refl (λ r. mirror-safe _ _ (listsOf d) (lawful-good l)))
+
+  -- ---- a delete always has room
+
+  delete-room : (p : Point) (n : ℕ) → Room (delete p n (listsOf d))
+  unfolding delete
+  delete-room p n = record {
+    wires = omega (arith, remove-no-longer (meetsWire p n) (meetsPart p n) (listsOf d), lawful-room l .wires);
+    parts = unfold remove in omega (arith, length-keep (λ c. not (meetsPart p n c)) (listsOf d .parts), lawful-room l .parts);
+  }
+
+  pub delete-roomy : (x y n : ℤ) → deleteAt d x y n t .reply ≡ 7 → ⊥
+  unfolding deleteAt pointed
+  delete-roomy x y n =
+      let o = quiet (delete (pointAt x y) (toℕ n) (listsOf d)) in
+      go (ranged 6000 x && ranged 6000 y) (eqb (sizedReply (sizeOf n)) 0) (edited d t o) (subst Roomy (sym (edited-room d t o (delete-room (pointAt x y) (toℕ n)))) (below-seven 0 (omega arith)))
+    where
+      go : (a b : Bool) (e : Edited) → Roomy e → Roomy (unless a 1 d t (unless b 3 d t e))
+      go true true e r = r
+      go true false e r = below-seven 3 (omega arith)
+      go false b e r = below-seven 1 (omega arith)
+
+  -- ---- a wire drawn again
+
+  pub wire-twice : (v : Bool) (a s e : ℤ) (u : Tally) → addWire d v a s e t .reply ≡ 0 → addWire (addWire d v a s e t .drawing) v a s e u ≡ addWire d v a s e t
+  wire-twice v a s e u = by-reply (Again v a s e u) (wire-decides d v a s e t refl) (λ f z. absurd (f z)) (λ k.
+      let n = askedWire v a s e .wire in
+      let g = lawful-good l in
+      let f = wire-drawable v a s e refl k in
+      by-room (Again v a s e u) (quiet (wire n (listsOf d))) (λ z. absurd (omega arith)) (λ r z.
+      sym (wire-decides (drawn (wire n (listsOf d))) v a s e u refl .makes k)
+      ∙ ap (λ (x : Sheet). edited (drawn (wire n (listsOf d))) u (quiet (wire n x))) (drawn-lists (wire n (listsOf d)))
+      ∙ ap (λ (x : Sheet). edited (drawn (wire n (listsOf d))) u (quiet x)) (wire-again n (listsOf d) f g)
+      ∙ edited-room (drawn (wire n (listsOf d))) u (quiet (wire n (listsOf d))) r))
+
+  -- ---- nothing changes
+
+  -- the answer that leaves the drawing as it was; "the tally is still filled"
+  abbrev pub still : Edited
+  still = record { reply = 0; tally = tallyOf (listsOf d); drawing = d; hit = 0; lost = 0 }
+
+  still-is : Sized d → edited d t (quiet (listsOf d)) ≡ still
+  still-is z = edited-room d t (quiet (listsOf d)) (lawful-room l) ∙ (λ i. record { reply = 0; tally = tallyOf (listsOf d); drawing = sym (lawful-drawn l z) i; hit = 0; lost = 0 })
+
+  -- "A zero-length wire inside the range gives 0 and the drawing as it was"
+  pub wire-idle : Sized d → (v : Bool) (a s : ℤ) → ranged 6000 a ≡ true → ranged 6000 s ≡ true → addWire d v a s s t ≡ still
+  unfolding addWire wire
+  wire-idle z v a s p q =
+      let e : leZ s s ≡ true = agree (leZ s s) true (λ u. tt) (λ u. ≤ℤ-refl s .le) in
+      rw (p, q, e) (ap (λ (ws : List Wire). edited d t (quiet (record { wires = ws; parts = listsOf d .parts }))) (drawn-idle (wireAt v a s s) refl (listsOf d .wires) (padsOf (listsOf d .parts))) ∙ still-is z)
+
+  -- the square meets nothing that the act is about
+  abbrev pub Misses : Act → Point → ℕ → Type 0
+  Misses Delete p n = ((w : Wire) → w ∈ listsOf d .wires → T (meetsWire p n w) → ⊥) × ((c : Component) → c ∈ listsOf d .parts → T (meetsPart p n c) → ⊥)
+  Misses TurnRight p n = (c : Component) → c ∈ listsOf d .parts → T (hits p n c) → ⊥
+  Misses Mirror p n = (c : Component) → c ∈ listsOf d .parts → T (hits p n c) → ⊥
+
+  missed : (a : Act) (p : Point) (n : ℕ) → Misses a p n → acted a p n (listsOf d) ≡ quiet (listsOf d)
+  unfolding delete turnRight mirror
+  missed Delete p n m = ap quiet (remove-nothing (meetsWire p n) (meetsPart p n) (listsOf d) (lawful-good l) (m .0) (m .1))
+  missed TurnRight p n m = turn-nothing (hits p n) turnedRight (listsOf d) (lawful-good l) m
+  missed Mirror p n m = turn-nothing (hits p n) mirrored (listsOf d) (lawful-good l) m
+
+  -- "A delete, turn or mirror that hits nothing gives 0."
+  pub act-idle : Sized d → (a : Act) (x y n : ℤ) → ranged 6000 x ≡ true → ranged 6000 y ≡ true → eqb (sizedReply (sizeOf n)) 0 ≡ true → Misses a (pointAt x y) (toℕ n) → pointed d x y n t (λ p m. acted a p m (listsOf d)) ≡ still
+  unfolding pointed
+  act-idle z a x y n p q r m = rw (p, q, r) (ap (edited d t) (missed a (pointAt x y) (toℕ n) m) ∙ still-is z)
