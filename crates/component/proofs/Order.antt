@@ -1,30 +1,30 @@
 -- The order of two numbers of rows is that of their coordinates, so the lesser and the greater are too.
 use mathlib.Core.Path.{_≡_, refl, sym, ap, _∙_}
-use Prim.Native.Nat.{ℕ, suc, _-_, min, max}
+use Prim.Native.Nat.{ℕ, suc, _-_, _≤_, min, max}
 use native.Mathlib.Omega.{arith}
 use mathlib.Core.Bool.{Bool, true, false, cond}
-use lib.Dec.{leb, leb→le, le→leb}
+use mathlib.Core.Logic.{_↔_}
+use lib.Dec.{leb}
 use lib.IntN.{ℤ, subℕ}
 use lib.Signed.{leZ}
 use borrow.Author.Tests.{leb-true, leb-false, le-leb, lt-leb}
-use Rattle.lists.proofs.Tests.{agree}
+use Rattle.lists.proofs.Tests.{reads-as, leb-reads, same-test}
 use Rattle.edge.specs.Coordinates.{coordOf}
 use Rattle.edge.proofs.Whole.{by-order, sub-pos, sub-neg}
 use Rattle.component.specs.Answers.{minZ, maxZ}
+
+same-leb : (i j m n : ℕ) → (i ≤ j) ↔ (m ≤ n) → leb i j ≡ leb m n
+same-leb i j m n e = same-test (reads-as e (leb-reads i j)) (leb-reads m n)
 
 same-order : (m n k : ℕ) → leZ (subℕ m k) (subℕ n k) ≡ leb m n
 same-order m n k =
     by-order Goal m k
     (λ f. by-order Goal n k
-    (λ g. (λ i. leZ (sub-neg m k f i) (sub-neg n k g i)) ∙ agree (leb (k - suc n) (k - suc m)) (leb m n)
-    (λ t. let h = leb→le (k - suc n) (k - suc m) t in le→leb m n (omega arith))
-    (λ t. let h = leb→le m n t in le→leb (k - suc n) (k - suc m) (omega arith)))
+    (λ g. (λ i. leZ (sub-neg m k f i) (sub-neg n k g i)) ∙ same-leb (k - suc n) (k - suc m) m n (λ h. omega arith, λ h. omega arith))
     (λ g. (λ i. leZ (sub-neg m k f i) (sub-pos n k g i)) ∙ sym (le-leb m n (omega arith))))
     (λ f. by-order Goal n k
     (λ g. (λ i. leZ (sub-pos m k f i) (sub-neg n k g i)) ∙ sym (lt-leb m n (omega arith)))
-    (λ g. (λ i. leZ (sub-pos m k f i) (sub-pos n k g i)) ∙ agree (leb (m - k) (n - k)) (leb m n)
-    (λ t. let h = leb→le (m - k) (n - k) t in le→leb m n (omega arith))
-    (λ t. let h = leb→le m n t in le→leb (m - k) (n - k) (omega arith))))
+    (λ g. (λ i. leZ (sub-pos m k f i) (sub-pos n k g i)) ∙ same-leb (m - k) (n - k) m n (λ h. omega arith, λ h. omega arith)))
   where
     Goal : Type 0
     Goal = leZ (subℕ m k) (subℕ n k) ≡ leb m n

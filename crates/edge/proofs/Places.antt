@@ -2,8 +2,9 @@
 use mathlib.Core.Path.{_≡_, refl, sym, ap, _∙_, subst}
 use Prim.Native.Nat.{ℕ, suc, _+_, _-_, _<_, _≤_, _^_}
 use native.Mathlib.Omega.{arith}
-use mathlib.Core.Bool.{Bool, true, false, cond, _&&_}
-use lib.Dec.{T, leb, leb→le, le→leb}
+use mathlib.Core.Bool.{Bool, true, false, cond}
+use mathlib.Core.Logic.{_↔_}
+use lib.Dec.{T, leb}
 use lib.IntN.{ℤ, pos, negsuc, natAbs, subℕ, _+ℤ_, _-ℤ_}
 use lib.Signed.{ltZ, nonNeg}
 use mir.Syntax.{w16, w32}
@@ -12,7 +13,7 @@ use mir.Facts.{toZ-ofZ, toZ-pos}
 use borrow.Author.Tests.{ltb-true, ltb-false, le-leb, lt-leb, leb-true, leb-false}
 use Rattle.edge.specs.Coordinates.{toℕ, coordOf, biased, placeOf, insideOf, placedReply}
 use Rattle.edge.specs.declared.Placed.the-variants.{Inside, Outside}
-use Rattle.lists.proofs.Tests.{agree, both-T, both-l, both-r}
+use Rattle.lists.proofs.Tests.{reads-as, and-reads, leb-reads, same-test}
 use Rattle.edge.proofs.Whole.{sub-pos, sub-neg, biased-sub, mag-sub}
 
 pub outside : (k : ℕ) (z : ℤ) → k < natAbs z → Outside ≡ placeOf k z
@@ -87,17 +88,15 @@ module _ (z : ℤ) (f : SFits w32 z) where
     placed = ap (λ (y : ℤ). Inside (natAbs y)) read ∙ inside 6000 z inner
 
 -- ---- a component's range is the narrower one
+narrow : (m n : ℕ) → (m ≤ 5800) ↔ ((200 ≤ n) × (n ≤ 11800)) → leb m 5800 ≡ insideOf n
+narrow m n e = same-test (reads-as e (leb-reads m 5800)) (and-reads (leb-reads 200 n) (leb-reads n 11800))
+
 pub narrow-test : (z : ℤ) → natAbs z ≤ 6000 → leb (natAbs z) 5800 ≡ insideOf (biased z)
 unfolding biased
-narrow-test (pos n) h =
-    agree (leb n 5800) (leb 200 (n + 6000) && leb (n + 6000) 11800)
-    (λ t. let l = leb→le n 5800 t in both-T (leb 200 (n + 6000)) (leb (n + 6000) 11800) (le→leb 200 (n + 6000) (omega arith)) (le→leb (n + 6000) 11800 (omega arith)))
-    (λ t. let l = leb→le (n + 6000) 11800 (both-r (leb 200 (n + 6000)) (leb (n + 6000) 11800) t) in le→leb n 5800 (omega arith))
+narrow-test (pos n) h = narrow n (n + 6000) (λ l. (omega arith, omega arith), λ t. omega arith)
 narrow-test (negsuc n) h =
     let e : toℕ (subℕ 6000 (suc n)) ≡ 6000 - suc n = ap toℕ (sub-pos 6000 (suc n) h) in
-    agree (leb (suc n) 5800) (leb 200 (toℕ (subℕ 6000 (suc n))) && leb (toℕ (subℕ 6000 (suc n))) 11800)
-    (λ t. let l = leb→le (suc n) 5800 t in both-T (leb 200 (toℕ (subℕ 6000 (suc n)))) (leb (toℕ (subℕ 6000 (suc n))) 11800) (le→leb 200 (toℕ (subℕ 6000 (suc n))) (omega arith)) (le→leb (toℕ (subℕ 6000 (suc n))) 11800 (omega arith)))
-    (λ t. let l = leb→le 200 (toℕ (subℕ 6000 (suc n))) (both-l (leb 200 (toℕ (subℕ 6000 (suc n)))) (leb (toℕ (subℕ 6000 (suc n))) 11800) t) in le→leb (suc n) 5800 (omega arith))
+    narrow (suc n) (toℕ (subℕ 6000 (suc n))) (λ l. (omega arith, omega arith), λ t. omega arith)
 
 -- what `place` says of z is what its size says
 placed-wide : (z : ℤ) (n : ℕ) → placeOf 6000 z ≡ Inside n → (natAbs z ≤ 6000) × (n ≡ biased z)

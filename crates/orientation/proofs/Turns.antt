@@ -1,6 +1,6 @@
 -- The laws of the eight orientations: the numbers and the eight are one to one; each turn takes the eight to the eight, by a table; four right
 -- turns, a left and a right turn, and two mirrors change nothing.
-use mathlib.Core.Path.{_≡_, refl, sym, ap, _∙_}
+use mathlib.Core.Path.{_≡_, refl, ap, _∙_}
 use Prim.Native.Nat.{ℕ, _<_}
 use mathlib.Core.Bool.{true, cond}
 use mathlib.Core.List.{List}

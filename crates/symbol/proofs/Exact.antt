@@ -1,10 +1,10 @@
 -- No number of a component's point is cut off: its coordinate is the sum of document 01, over the whole numbers. And every point lies in
 -- 50 to 11,950, so that none is a row of zeros, and each is a place for a wire's end.
-use mathlib.Core.Path.{_≡_, refl, subst}
+use mathlib.Core.Path.{_≡_, subst}
 use Prim.Native.Nat.{ℕ, zero, suc, _+_, _≤_}
 use native.Mathlib.Omega.{arith}
 use mathlib.Core.Bool.{Bool, _&&_}
-use mathlib.Core.List.{List·Memᴰ·head as ∈-head, Memᴰ·of-map as ∈-map}
+use mathlib.Core.List.{Memᴰ·of-map as ∈-map}
 use lib.Dec.{T, leb, leb→le}
 use lib.IntN.{ℤ, pos, negsuc, natAbs, _+ℤ_, _*ℤ_}
 use lib.ListN.{length}

@@ -3,7 +3,7 @@ use Prim.Native.Nat.{_≤_, _+_, _-_}
 use mathlib.Core.Bool.{_&&_}
 use borrow.Author.Needs.{needs}
 use lib.ListN.{length, take, drop}
-use mathlib.Core.Path.{_≡_, refl, sym, ap, _∙_}
+use mathlib.Core.Path.{_≡_, refl, sym, _∙_}
 use native.Mathlib.Omega.{arith}
 use Rattle.lists.specs.Lists.{all}
 use Rattle.label.specs.Labels.{graphic, padded}
