@@ -1,28 +1,26 @@
 -- Wire, place and delete keep a sheet good.
-use Prim.Native.Nat.{ℕ, _≤_}
+use Prim.Native.Nat.{ℕ}
 use mathlib.Core.Bool.{Bool, not}
-use mathlib.Core.List.{List, _++_, List·Memᴰ·not-nil as ∈-nil, List·Memᴰ·append-cases as ∈-append, Memᴰ·append-left as ∈-left, Memᴰ·append-right as ∈-right}
+use mathlib.Core.List.{List, _++_, List·Memᴰ·append-cases as ∈-append, List·Memᴰ·not-nil as ∈-nil, Memᴰ·append-left as ∈-left, Memᴰ·append-right as ∈-right}
 use mathlib.Core.Path.{_≡_, refl, sym, subst, ap, ap₂, _∙_}
 use mathlib.Core.Logic.{⊎-elim, inl, inr, _↔_}
-use native.Mathlib.Omega.{arith}
 use lib.Dec.{T}
-use lib.ListN.{length}
-use Rattle.lists.specs.Lists.{_∈_, none, any, keep, insert}
-use Rattle.lists.proofs.Tests.{Reads, test, not-reads}
-use Rattle.lists.proofs.Lists.{any-reads, keep-old, keep-all, insert-in, in-insert, gather-in, in-gather, rows-keep, rows-insert, length-keep}
+use Rattle.lists.specs.Lists.{_∈_, any, keep, insert, none}
+use Rattle.lists.proofs.Tests.{test, not-reads, Reads}
+use Rattle.lists.proofs.Lists.{any-reads, keep-all, keep-old, insert-in, in-insert, gather-in, in-gather, rows-keep, rows-insert}
 use Rattle.symbol.specs.declared.Point.{Point}
 use Rattle.sheet.specs.declared.Wire.{Wire}
 use Rattle.sheet.specs.declared.Component.{Component}
 use Rattle.sheet.specs.Merge.{merge}
 use Rattle.sheet.specs.Boxes.{Shares}
 use Rattle.sheet.specs.Parts.{position, box, pads, padsOf, touches, ahead, PartFits}
-use Rattle.sheet.specs.Drawings.{Sheet, emptySheet}
+use Rattle.sheet.specs.Drawings.{emptySheet, Sheet}
 use Rattle.sheet.specs.Wiring.{Drawable, Good}
-use Rattle.sheet.specs.Edits.{wire, place, remove, delete}
+use Rattle.sheet.specs.Edits.{place, wire, remove, delete}
 use Rattle.sheet.proofs.Points.{rises-reads, rise-trans, rise-back}
-use Rattle.sheet.proofs.Lines.{wired-pads}
-use Rattle.sheet.proofs.Split.{split-wired}
-use Rattle.sheet.proofs.Merge.{clean-keep, merge-wired, merge-same, merge-no-longer}
+use Rattle.sheet.proofs.Wiring.{wired-pads}
+use Rattle.sheet.proofs.SplitWired.{split-wired}
+use Rattle.sheet.proofs.Merge.{clean-keep, merge-wired, merge-same}
 use Rattle.sheet.proofs.Run.{drawn-wired, drawn-again}
 use Rattle.sheet.proofs.Boxes.{shares-mirror}
 use Rattle.sheet.proofs.Parts.{touches-reads, near}
@@ -86,10 +84,7 @@ place-good c s fit good free = record {
 -- ---- delete
 
 module _ (f : Wire → Bool) (g : Component → Bool) (s : Sheet) where
-  -- the wires and components that are left
-  abbrev left-wires : List Wire
-  left-wires = keep (λ w. not (f w)) (s .wires)
-
+  -- the components that are left
   abbrev left-parts : List Component
   left-parts = keep (λ c. not (g c)) (s .parts)
 
@@ -101,10 +96,6 @@ module _ (f : Wire → Bool) (g : Component → Bool) (s : Sheet) where
     order = rows-keep (λ c. not (g c)) (good .order);
     apart = rows-keep (λ c. not (g c)) (good .apart);
   }
-
-  pub remove-no-longer : length (remove f g s .wires) ≤ length (s .wires)
-  unfolding remove
-  remove-no-longer = omega (arith, merge-no-longer left-wires (padsOf left-parts), length-keep (λ w. not (f w)) (s .wires))
 
   -- where nothing is met nothing changes
   pub remove-nothing : Good s → ((w : Wire) → w ∈ s .wires → T (f w) → ⊥) → ((c : Component) → c ∈ s .parts → T (g c) → ⊥) → remove f g s ≡ s

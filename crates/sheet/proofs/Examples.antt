@@ -35,5 +35,7 @@ board = record {
   pad-count = refl;
   pad-sum = refl;
   loose = refl;
+  corner-stays = refl;
+  pad-stays = refl;
   under = refl;
 }

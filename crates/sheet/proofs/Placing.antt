@@ -1,21 +1,19 @@
--- Placing many components in turn: what stands afterwards, what is lost, and that the wires never get fewer.
-use Prim.Native.Nat.{ℕ, suc, _+_, _≤_, _<_}
-use mathlib.Core.Bool.{Bool, true, false, cond}
-use mathlib.Core.List.{List, [], _∷_, _++_, List·Memᴰ·head as ∈-head, List·Memᴰ·tail as ∈-tail, List·Memᴰ·not-nil as ∈-nil, List·Memᴰ·cases-cons as ∈-cases, append-nil}
+-- Placing many components in turn: what stands afterwards, and what is lost.
+use Prim.Native.Nat.{suc, _+_, _≤_}
+use mathlib.Core.List.{List, [], _∷_, List·Memᴰ·head as ∈-head, List·Memᴰ·tail as ∈-tail, List·Memᴰ·cases-cons as ∈-cases, List·Memᴰ·not-nil as ∈-nil}
 use mathlib.Core.Path.{_≡_, refl, subst}
-use mathlib.Core.Logic.{⊎-elim, _⊎_, inl, inr, _↔_}
+use mathlib.Core.Logic.{⊎-elim, _⊎_, inl, inr}
 use native.Mathlib.Omega.{arith}
 use lib.ListN.{length}
-use Rattle.lists.specs.Lists.{_∈_, Rows, none, more, any, insert}
+use Rattle.lists.specs.Lists.{_∈_, insert, Rows, none, more}
 use Rattle.lists.proofs.Tests.{choose}
 use Rattle.lists.proofs.Lists.{insert-in, in-insert, length-insert}
 use Rattle.sheet.specs.declared.Component.{Component}
 use Rattle.sheet.specs.Boxes.{Shares}
-use Rattle.sheet.specs.Parts.{box, pads, touches, ahead, PartFits}
+use Rattle.sheet.specs.Parts.{box, ahead, PartFits}
 use Rattle.sheet.specs.Drawings.{Sheet}
 use Rattle.sheet.specs.Wiring.{Good}
-use Rattle.sheet.specs.Edits.{place, Placed, gone, placeAll}
-use Rattle.sheet.proofs.Split.{split-all-no-shorter}
+use Rattle.sheet.specs.Edits.{place, gone, placeAll, Placed}
 use Rattle.sheet.proofs.Boxes.{shares-mirror}
 use Rattle.sheet.proofs.Edits.{Clear, touched-reads, place-good}
 
@@ -73,37 +71,3 @@ in-place-all (c ∷ cs) s e {z} m = choose (touched-reads c (s .parts)) (λ (o :
     (λ (i : z ∈ s .parts). inr (in-insert ahead c (s .parts) (inr i)))
     m))
     e
-
--- the wires never get fewer while components are placed, so the end has the most
-pub place-no-shorter : (c : Component) (s : Sheet) → length (s .wires) ≤ length (place c s .wires)
-unfolding place
-place-no-shorter c s = split-all-no-shorter (pads c) (s .wires)
-
-pub place-all-no-shorter : (cs : List Component) (s : Sheet) → length (s .wires) ≤ length (placeAll cs s .sheet .wires)
-unfolding placeAll
-place-all-no-shorter [] s = omega arith
-place-all-no-shorter (c ∷ cs) s = choose (touched-reads c (s .parts)) (λ (o : Placed). length (s .wires) ≤ length (o .sheet .wires))
-    {x = gone (placeAll cs s)} {y = placeAll cs (place c s)}
-    (λ t. place-all-no-shorter cs s)
-    (λ n. omega (arith, place-no-shorter c s, place-all-no-shorter cs (place c s)))
-
-pub place-all-append : (bs cs : List Component) (s : Sheet) → placeAll (bs ++ cs) s .sheet ≡ placeAll cs (placeAll bs s .sheet) .sheet
-unfolding placeAll
-place-all-append [] cs s = refl
-place-all-append (b ∷ bs) cs s = step (any (touches b) (s .parts)) (place-all-append bs cs s) (place-all-append bs cs (place b s))
-  where
-    step : (t : Bool)
-        → placeAll (bs ++ cs) s .sheet ≡ placeAll cs (placeAll bs s .sheet) .sheet
-        → placeAll (bs ++ cs) (place b s) .sheet ≡ placeAll cs (placeAll bs (place b s) .sheet) .sheet
-        → cond t (gone (placeAll (bs ++ cs) s)) (placeAll (bs ++ cs) (place b s)) .sheet
-        ≡ placeAll cs (cond t (gone (placeAll bs s)) (placeAll bs (place b s)) .sheet) .sheet
-    step true e f = e
-    step false e f = f
-
--- after some of the components there are no more wires than at the end
-pub moment : (bs cs : List Component) (s : Sheet) → length (placeAll bs s .sheet .wires) ≤ length (placeAll (bs ++ cs) s .sheet .wires)
-moment bs cs s = rw place-all-append (place-all-no-shorter cs (placeAll bs s .sheet))
-
--- over N wires at some moment is over N at the end
-pub over : (N : ℕ) (cs : List Component) (s : Sheet) → ((bs : List Component) × (rest : List Component) × (bs ++ rest ≡ cs) × (N < length (placeAll bs s .sheet .wires))) ↔ (N < length (placeAll cs s .sheet .wires))
-over N cs s = (λ r. subst (λ l. N < length (placeAll l s .sheet .wires)) (r .2) (omega (arith, moment (r .0) (r .1) s, r .3)), λ l. (cs, [], append-nil cs, l))

@@ -5,23 +5,21 @@ use mathlib.Core.List.{List, [], _∷_, List·Memᴰ·head as ∈-head, List·Me
 use mathlib.Core.Path.{_≡_, refl, sym, subst, ap, _∙_}
 use mathlib.Core.Logic.{⊎-elim, inl, inr, _↔_}
 use native.Mathlib.Omega.{arith}
-use lib.Dec.{eqb}
-use Rattle.lists.specs.Lists.{_∈_, Rows, none, more, keep, gather}
-use Rattle.lists.proofs.Tests.{stable, choose, decide, reads-as, not-reads, beq-reads, eqb-reads, ltb-reads, same-test}
+use Rattle.lists.specs.Lists.{_∈_, keep, gather, Rows, none, more}
+use Rattle.lists.proofs.Tests.{decide, choose, ltb-reads, beq-reads}
 use Rattle.lists.proofs.Lists.{keep-in, in-keep, gather-in, in-gather, rows-keep, rows-all}
 use Rattle.symbol.specs.declared.Point.{Point}
 use Rattle.sheet.specs.declared.Wire.{Wire}
 use Rattle.sheet.specs.Points.{same}
-use Rattle.sheet.specs.Lines.{Side, low, high, tip, tips, ends, marks, Ends, Follows}
-use Rattle.sheet.specs.Wiring.{Ended, Held, AllFit, Clean}
-use Rattle.sheet.specs.Merge.{held, mergeBy, merge}
-use Rattle.sheet.specs.Joints.{jointsOf, countAt, number}
-use Rattle.sheet.specs.Rules.{Share, endsAt, Rule2, Rule4}
+use Rattle.sheet.specs.Lines.{tip, tips, ends, marks, Ends, Follows, Side, low, high}
+use Rattle.sheet.specs.Joints.{number}
+use Rattle.sheet.specs.Wiring.{Held, AllFit, Ended}
+use Rattle.sheet.specs.Rules.{endsAt, Rule2, Rule4, Share}
 use Rattle.sheet.proofs.Points.{same-reads}
-use Rattle.sheet.proofs.Lines.{same-dir, ends-at, ends-is, is-ends, ends-follow, follows-end}
-use Rattle.sheet.proofs.Merge.{held-reads, merge-cong}
-use Rattle.sheet.proofs.JointRows.{number-in, in-number, number-append, number-parts, count-joints}
-use Rattle.sheet.proofs.RowOrder.{rules-2-7}
+use Rattle.sheet.proofs.Lines.{same-dir, ends-at, ends-is, is-ends, ends-in, in-ends}
+use Rattle.sheet.proofs.Wiring.{ends-follow, follows-end}
+use Rattle.sheet.proofs.Held.{held-reads}
+use Rattle.sheet.proofs.Numbers.{number-in, in-number, number-append, number-parts}
 
 -- the ends of one side
 sideEnds : Side → List Wire → List Point
@@ -93,17 +91,12 @@ module _ {ws : List Wire} (ps : List Point) (fits : AllFit ws) (r : Rule2 ws) wh
   both-sides d p = number-ends p (of d)
 
   some-end : (d : Bool) (p : Point) → Ended ws d p → 0 < endsAt d ws p
-  some-end d p t = go (t .here .0) (t .here .1)
-    where
-      go : (s : Side) → Ends s p (t .wire) → 0 < endsAt d ws p
-      go low e = omega (arith, both-sides d p, in-side (in-of d (t .among) (t .dir)) e)
-      go high e = omega (arith, both-sides d p, in-side (in-of d (t .among) (t .dir)) e)
+  unfolding endsAt
+  some-end d p t = in-number (in-ends (t .wire, in-of d (t .among) (t .dir), t .here))
 
   none-other : (d : Bool) (p : Point) → (Ended ws d p → ⊥) → endsAt d ws p ≡ 0
-  none-other d p f = omega (arith, both-sides d p, side low, side high)
-    where
-      side : (s : Side) → number p (sideEnds s (of d)) ≡ 0
-      side s = no-pos (number p (sideEnds s (of d))) (λ l. let k = side-in s p (of d) l in let i = of-in d (k .1) in f (record { wire = k .0; among = i .0; dir = i .1; here = (s, k .2) }))
+  unfolding endsAt
+  none-other d p f = no-pos (number p (ends (of d))) (λ l. let k = ends-in (of d) (number-in p (ends (of d)) l) in let i = of-in d (k .1) in f (record { wire = k .0; among = i .0; dir = i .1; here = k .2 }))
 
   -- where a wire goes on in line, two of the direction end
   follow-two : (a b : Wire) → a ∈ ws → b ∈ ws → Follows a b → endsAt (a .vertical) ws (tip high a) ≡ 2
@@ -130,26 +123,15 @@ module _ {ws : List Wire} (ps : List Point) (fits : AllFit ws) (r : Rule2 ws) wh
           clear (inl s) = omega (arith, some-end (not d) p s)
           clear (inr m) = free m
 
-  -- ---- where wires go on in line, nothing holds them apart just where two ends and pads are counted
+  -- ---- where wires go on in line, two are counted if nothing holds them apart, and else more
 
-  pub count-two : (a b : Wire) → a ∈ ws → b ∈ ws → Follows a b → (Held ws ps (a .vertical) (tip high a) → ⊥) ↔ (number (tip high a) (marks ws ps) ≡ 2)
-  count-two a b m n e = (λ f. omega (arith, both, two, none-other (not (a .vertical)) (tip high a) (λ x. f (inl x)), no-pos (number (tip high a) ps) (λ l. f (inr (number-in (tip high a) ps l)))), out)
-    where
-      two : endsAt (a .vertical) ws (tip high a) ≡ 2
-      two = follow-two a b m n e
+  module _ (a b : Wire) (m : a ∈ ws) (n : b ∈ ws) (e : Follows a b) where
+    counted : number (tip high a) (marks ws ps) ≡ 2 + endsAt (not (a .vertical)) ws (tip high a) + number (tip high a) ps
+    counted = omega (arith, number-append (tip high a) (ends ws) ps, number-both (a .vertical) (tip high a) ws, follow-two a b m n e)
 
-      both : number (tip high a) (marks ws ps) ≡ endsAt (a .vertical) ws (tip high a) + endsAt (not (a .vertical)) ws (tip high a) + number (tip high a) ps
-      both = omega (arith, number-append (tip high a) (ends ws) ps, number-both (a .vertical) (tip high a) ws)
+    pub count-two : (Held ws ps (a .vertical) (tip high a) → ⊥) → number (tip high a) (marks ws ps) ≡ 2
+    count-two f = omega (arith, counted, none-other (not (a .vertical)) (tip high a) (λ x. f (inl x)), no-pos (number (tip high a) ps) (λ l. f (inr (number-in (tip high a) ps l))))
 
-      out : number (tip high a) (marks ws ps) ≡ 2 → Held ws ps (a .vertical) (tip high a) → ⊥
-      out c (inl s) = omega (arith, both, two, some-end (not (a .vertical)) (tip high a) s)
-      out c (inr s) = omega (arith, both, two, in-number s)
-
--- merging by the joint rows: wires that go on in line become one just where the count is 2
-pub merge-by-count : {ws : List Wire} {ps : List Point} → Clean ws ps → mergeBy (λ d p. not (eqb (countAt p (jointsOf (marks ws ps))) 2)) ws ≡ merge ws ps
-unfolding merge
-merge-by-count {ws} {ps} c = merge-cong (λ d p. not (eqb (countAt p (jointsOf (marks ws ps))) 2)) (held ws ps) (c .order) (c .fits) (λ a b m n e.
-    let t = count-two ps (c .fits) (rules-2-7 (c .fits) .0 (c .order) .0) a b m n e in
-    let s = count-joints (tip high a) (marks ws ps) in
-    let h = held-reads ws ps (a .vertical) (tip high a) in
-    same-test (reads-as (λ f. stable h (λ g. f (s ∙ t .0 g)), λ x k. t .1 (sym s ∙ k) x) (not-reads (eqb-reads (countAt (tip high a) (jointsOf (marks ws ps))) 2))) h)
+    pub count-above : Held ws ps (a .vertical) (tip high a) → 3 ≤ number (tip high a) (marks ws ps)
+    count-above (inl s) = omega (arith, counted, some-end (not (a .vertical)) (tip high a) s)
+    count-above (inr s) = omega (arith, counted, in-number s)

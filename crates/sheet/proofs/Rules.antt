@@ -1,27 +1,29 @@
 -- The rules as document 01 words them, on tables, are the rules as the edits' laws use them, on lists; a lawful drawing is the
 -- drawing of the sheet that it holds.
+use Prim.Native.Nat.{ℕ, _-_, _≤_}
 use mathlib.Core.List.{List}
 use mathlib.Core.Path.{_≡_, refl, sym, subst, subst₂}
 use mathlib.Core.Logic.{_↔_}
 use native.Mathlib.Omega.{arith}
-use lib.ListN.{length-take}
+use lib.ListN.{length, take, replicate, length-take}
+use lib.Seq.{take-append-seam}
 use Rattle.lists.specs.Lists.{_∈_, Rows}
-use Rattle.lists.specs.Tables.{Holds}
+use Rattle.lists.specs.Tables.{pad, Holds}
+use Rattle.lists.proofs.Tables.{blank-holds, holds-blank}
 use Rattle.symbol.specs.declared.Point.{Point}
 use Rattle.sheet.specs.declared.Wire.{Wire}
 use Rattle.sheet.specs.declared.Component.{Component}
 use Rattle.sheet.specs.declared.Drawing.{Drawing}
 use Rattle.sheet.specs.Points.{Rise}
-use Rattle.sheet.specs.Joints.{Listed, Rising}
+use Rattle.sheet.specs.Joints.{Rising, Listed}
 use Rattle.sheet.specs.Parts.{position, padsOf, PartFits}
-use Rattle.sheet.specs.Drawings.{Sheet, marksOf, joints, zeroWire, zeroComponent, zeroJoint, jointRows, listsOf, drawn, Sized}
+use Rattle.sheet.specs.Drawings.{marksOf, joints, zeroWire, zeroComponent, zeroJoint, jointRows, listsOf, drawn, Sheet, Sized}
 use Rattle.sheet.specs.Wiring.{AllFit, Wired, Good, Room}
-use Rattle.sheet.specs.Rules.{Upward, Rule1, Rule2, Rule3, Rule4, Rule5, Lawful}
+use Rattle.sheet.specs.Rules.{Blank, Rule2, Rule3, Rule4, Rule5, Rule1, Lawful, Upward}
 use Rattle.sheet.proofs.JointRows.{rules-6-7}
 use Rattle.sheet.proofs.Totals.{joint-room}
 use Rattle.sheet.proofs.RowOrder.{rules-2-7}
 use Rattle.sheet.proofs.Rule4.{rule-4}
-use Rattle.sheet.proofs.Padding.{take-pad, length-pad, pad-blank, taken-holds}
 
 -- ---- wires and sheets
 
@@ -64,28 +66,33 @@ module _ {d : Drawing} (l : Lawful d) where
   pub lawful-drawn : Sized d → d ≡ drawn (listsOf d)
   unfolding drawn
   lawful-drawn z =
-      let ws = taken-holds zeroWire (d .wires .count) (d .wires .rows) (z .wires) (l .rule1 .wire-room) (l .rule1 .wires-blank) in
-      let cs = taken-holds zeroComponent (d .components .count) (d .components .rows) (z .components) (l .rule1 .component-room) (l .rule1 .components-blank) in
-      let js = taken-holds zeroJoint (d .joints .count) (d .joints .rows) (z .joints) (l .rule1 .joint-room) (l .rule1 .joints-blank) in
+      let ws = blank-holds {z = zeroWire} {rows = d .wires .rows} (z .wires) (l .rule1 .wire-room) (l .rule1 .wires-blank) in
+      let cs = blank-holds {z = zeroComponent} {rows = d .components .rows} (z .components) (l .rule1 .component-room) (l .rule1 .components-blank) in
+      let js = blank-holds {z = zeroJoint} {rows = d .joints .rows} (z .joints) (l .rule1 .joint-room) (l .rule1 .joints-blank) in
       let js′ = subst (λ r. Holds 1408 zeroJoint r (d .joints .rows) (d .joints .count)) lawful-joints js in
       λ i. record { wires = record { rows = ws .rows-are i; count = ws .count-is i }; components = record { rows = cs .rows-are i; count = cs .count-is i }; joints = record { rows = js′ .rows-are i; count = js′ .count-is i } }
 
 -- ---- the drawing of a sheet
 
+-- a table's rows in use are its list, and those behind are all zero
+module _ {A : Type 0} (n : ℕ) (z : A) (xs : List A) where
+  rows-used : take (length xs) (pad n z xs) ≡ xs
+  unfolding pad
+  rows-used = take-append-seam xs (replicate (n - length xs) z)
+
+  rows-blank : length xs ≤ n → Blank z (length xs) (pad n z xs)
+  rows-blank h = holds-blank {xs = xs} (record { rows-are = refl; count-is = refl; room = h })
+
 -- the rows in use are the sheet's
 pub drawn-lists : (s : Sheet) → listsOf (drawn s) ≡ s
 unfolding drawn
-drawn-lists s = λ i. record { wires = take-pad 512 zeroWire (s .wires) i; parts = take-pad 128 zeroComponent (s .parts) i }
+drawn-lists s = λ i. record { wires = rows-used 512 zeroWire (s .wires) i; parts = rows-used 128 zeroComponent (s .parts) i }
 
 pub drawn-joints : (s : Sheet) → jointRows (drawn s .joints) ≡ joints s
 unfolding drawn
-drawn-joints s = take-pad 1408 zeroJoint (joints s)
+drawn-joints s = rows-used 1408 zeroJoint (joints s)
 
 module _ {s : Sheet} (room : Room s) where
-  pub drawn-sized : Sized (drawn s)
-  unfolding drawn
-  drawn-sized = record { wires = length-pad 512 zeroWire (s .wires) (room .wires); components = length-pad 128 zeroComponent (s .parts) (room .parts); joints = length-pad 1408 zeroJoint (joints s) (joint-room room) }
-
   pub drawn-lawful : Good s → Lawful (drawn s)
   drawn-lawful good =
       let w = wired-rules (s .wires) (padsOf (s .parts)) .0 (good .wires) in
@@ -111,9 +118,9 @@ module _ {s : Sheet} (room : Room s) where
         wire-room = unfold drawn in room .wires;
         component-room = unfold drawn in room .parts;
         joint-room = unfold drawn in joint-room room;
-        wires-blank = unfold drawn in pad-blank 512 zeroWire (s .wires);
-        components-blank = unfold drawn in pad-blank 128 zeroComponent (s .parts);
-        joints-blank = unfold drawn in pad-blank 1408 zeroJoint (joints s);
+        wires-blank = unfold drawn in rows-blank 512 zeroWire (s .wires) (room .wires);
+        components-blank = unfold drawn in rows-blank 128 zeroComponent (s .parts) (room .parts);
+        joints-blank = unfold drawn in rows-blank 1408 zeroJoint (joints s) (joint-room room);
         wires-fit = subst (λ (t : Sheet). AllFit (t .wires)) e fits;
         components-fit = subst (λ (t : Sheet). (c : Component) → c ∈ t .parts → PartFits c) e (good .fits);
       }

@@ -6,15 +6,15 @@ use lib.ListN.{length, length-append}
 use Rattle.lists.proofs.Lists.{length-gather}
 use Rattle.sheet.specs.Lines.{ends}
 use Rattle.sheet.specs.Parts.{pads, padsOf}
-use Rattle.sheet.specs.Drawings.{Sheet, marksOf, joints, tallyOf}
+use Rattle.sheet.specs.Drawings.{marksOf, joints, tallyOf, Sheet}
 use Rattle.sheet.specs.Wiring.{Room}
-use Rattle.sheet.proofs.JointRows.{total-of, length-joints, length-ends}
+use Rattle.sheet.proofs.JointRows.{total-joints, length-joints, length-ends}
 use Rattle.sheet.proofs.Parts.{length-pads}
 
 -- "That sum equals twice the wires plus the pads."
 pub tally-sum : (s : Sheet) → tallyOf s .ends ≡ 2 * length (s .wires) + length (padsOf (s .parts))
 unfolding tallyOf joints
-tally-sum s = total-of (s .wires) (padsOf (s .parts))
+tally-sum s = omega (arith, total-joints (marksOf s), length-append (ends (s .wires)) (padsOf (s .parts)), length-ends (s .wires))
 
 pub joints-few : (s : Sheet) → length (joints s) ≤ 2 * length (s .wires) + 3 * length (s .parts)
 unfolding joints

@@ -1,30 +1,31 @@
 -- Turn right and mirror keep a sheet good; mirroring loses nothing.
 use Prim.Native.Nat.{ℕ, _+_, _≤_}
 use mathlib.Core.Bool.{Bool, false, cond, not}
-use mathlib.Core.List.{map, Memᴰ·of-map as ∈-map, Memᴰ·map as map-∈, Memᴰ·cast as ∈-cast}
+use mathlib.Core.List.{map, Memᴰ·cast as ∈-cast, Memᴰ·of-map as ∈-map, Memᴰ·map as map-∈}
 use mathlib.Core.Path.{_≡_, refl, sym, subst, subst₂, ap₂, _∙_}
 use mathlib.Core.Logic.{⊎-elim, _⊎_, inl, inr}
 use native.Mathlib.Omega.{arith}
 use lib.Dec.{T}
 use lib.ListN.{length, length-map}
-use Rattle.lists.specs.Lists.{_∈_, Rows, keep}
-use Rattle.lists.proofs.Tests.{test, holds, decide, choose, not-reads, and-reads, eqb-reads}
-use Rattle.lists.proofs.Lists.{keep-in, in-keep, keep-old, keep-none, rows-keep, rows-all, rows-map, rows-two, rows-ext, length-parts}
-use Rattle.symbol.specs.declared.Point.{Point}
+use Rattle.lists.specs.Lists.{_∈_, keep, Rows}
+use Rattle.lists.proofs.Tests.{test, decide, holds, choose, not-reads, and-reads, eqb-reads}
+use Rattle.lists.proofs.Lists.{keep-in, in-keep, keep-none, keep-old, length-parts, rows-keep, rows-map, rows-two, rows-all, rows-ext}
 use Rattle.orientation.specs.Orientations.{rightOf, mirrorOf}
 use Rattle.orientation.proofs.Turns.{right-known, mirror-known}
+use Rattle.symbol.specs.declared.Point.{Point}
 use Rattle.sheet.specs.declared.Component.{Component}
-use Rattle.sheet.specs.Points.{Rise}
+use Rattle.sheet.specs.Points.{same, Rise}
+use Rattle.sheet.specs.Lines.{at}
 use Rattle.sheet.specs.Boxes.{Shares}
-use Rattle.sheet.specs.Parts.{position, box, PartFits, turnedRight, mirrored}
+use Rattle.sheet.specs.Parts.{position, box, turnedRight, mirrored, PartFits}
 use Rattle.sheet.specs.Drawings.{Sheet}
 use Rattle.sheet.specs.Wiring.{Good}
-use Rattle.sheet.specs.Edits.{remove, Outcome, placeAll, turn, meetsPart, hits, turnRight, mirror}
+use Rattle.sheet.specs.Edits.{remove, meetsPart, placeAll, turn, hits, turnRight, mirror, Outcome}
 use Rattle.sheet.proofs.Points.{rise-asym}
 use Rattle.sheet.proofs.Boxes.{shares-mirror}
 use Rattle.sheet.proofs.Parts.{reoriented-fits, mirrored-box}
 use Rattle.sheet.proofs.Edits.{Clear, remove-good, remove-nothing}
-use Rattle.sheet.proofs.Placing.{place-all-good, place-all-count, place-all-safe, place-all-in, in-place-all, lost-at-most}
+use Rattle.sheet.proofs.Placing.{place-all-good, place-all-count, lost-at-most, place-all-safe, place-all-in, in-place-all}
 
 module _ (g : Component → Bool) (alter : Component → Component) (s : Sheet) where
   pub turn-lost : turn g alter s .lost ≤ turn g alter s .hit

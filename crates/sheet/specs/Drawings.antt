@@ -3,6 +3,7 @@ use mathlib.Core.Bool.{false}
 use mathlib.Core.List.{List, []}
 use mathlib.Core.Path.{_≡_}
 use lib.ListN.{length, take, replicate}
+use Rattle.lists.specs.Lists.{_∈_}
 use Rattle.lists.specs.Tables.{pad}
 use Rattle.orientation.specs.Orientations.{zeros}
 use Rattle.symbol.specs.declared.Point.{Point}
@@ -79,6 +80,7 @@ pub record Sized (d : Drawing) : Type 0 where
   pub wires : length (d .wires .rows) ≡ 512
   pub components : length (d .components .rows) ≡ 128
   pub joints : length (d .joints .rows) ≡ 1408
+  pub labels : (c : Component) → c ∈ d .components .rows → length (c .label) ≡ 16
 
 -- "the numbers of wires, joints and components and the sum of all joint counts"
 unfoldable pub tallyOf : Sheet → Tally

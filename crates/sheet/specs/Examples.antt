@@ -115,5 +115,9 @@ pub record Board : Type 0 where
   pub pad-sum : total (joints onWire) ≡ 7
   -- `E 2`: two joints whose count is 1
   pub loose : length (keep (λ j. eqb (j .count) 1) (joints script)) ≡ 2
-  -- "Three easy slips": not merged at a corner (`bend`), not joined at a bare crossing (`bare`), cut at a pad under the new wire's middle
+  -- "A corner does not" become one wire: `h 0 100 200` on the corner, and taken away again by `d 150 0 5`
+  pub corner-stays : delete (pt 6150 6000) 5 (wire (h 6000 6100 6200) corner) ≡ corner
+  -- "without a pad": `d -1000 -1000 0` meets nothing, and the two wires in line stay apart at the pad
+  pub pad-stays : delete (pt 5000 5000) 0 onWire ≡ onWire
+  -- "Three easy slips": not merged at a corner (above), not joined at a bare crossing (`bare`), cut at a pad under the new wire's middle
   pub under : wire (h 5900 5800 6200) (place (contact 6000 6000) emptySheet) ≡ onWire

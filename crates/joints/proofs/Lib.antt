@@ -1,0 +1,4 @@
+pub mod Digits
+pub mod Sorting
+pub mod Keying
+pub mod Gathering

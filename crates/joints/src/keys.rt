@@ -1,0 +1,65 @@
+// Wire ends and pads as keys: y, then x, so that keys rise as points do.
+ghost use mathlib.Core.Path.{_≡_};
+ghost use mathlib.Core.List.{[]};
+ghost use Prim.Native.Nat.{_≤_};
+ghost use Rattle.sheet.specs.Lines.{ends, marks};
+ghost use Rattle.sheet.specs.Drawings.{wireRows};
+ghost use Rattle.wires.specs.Tables.{pointRows};
+ghost use Rattle.joints.specs.Keys.{spot, Keyed};
+use crate::sort::Keys;
+use sheet::Wires;
+use symbol::Point;
+use wires::Points;
+use wires::lines::high_tip;
+use wires::lines::low_tip;
+
+// The key of a point.
+fn key(p: Point) -> u32
+    ensures { λ r. ⌜ spot r ≡ p ⌝ }
+{
+    (p.y as u32) * 65536 + (p.x as u32)
+}
+
+fn no_keys() -> Keys
+    ensures { λ r. ⌜ Keyed [] r ⌝ }
+{
+    let rows = [0u32; 1408];
+    Keys { rows, count: 0 }
+}
+
+// The keys of all wire ends.
+fn end_keys(ws: Wires) -> Keys
+    requires { ⌜ ws .count ≤ 512 ⌝ }
+    ensures { λ r. ⌜ Keyed (ends (wireRows ws)) r ⌝ }
+{
+    let n = ws.count;
+    let mut out = no_keys();
+    let mut i = 0;
+    while i < n {
+        let w = ws.rows[i];
+        let k = out.count;
+        out.rows[k] = key(low_tip(w));
+        out.rows[k + 1] = key(high_tip(w));
+        out.count = k + 2;
+        i += 1;
+    }
+    out
+}
+
+// The keys of all wire ends and pads.
+pub(crate) fn mark_keys(ws: Wires, pads: Points) -> Keys
+    requires { ⌜ (ws .count ≤ 512) × (pads .count ≤ 384) ⌝ }
+    ensures { λ r. ⌜ Keyed (marks (wireRows ws) (pointRows pads)) r ⌝ }
+{
+    let n = pads.count;
+    let mut out = end_keys(ws);
+    let mut i = 0;
+    while i < n {
+        let p = pads.rows[i];
+        let k = out.count;
+        out.rows[k] = key(p);
+        out.count = k + 1;
+        i += 1;
+    }
+    out
+}

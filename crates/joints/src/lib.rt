@@ -1,0 +1,24 @@
+// The joints of a drawing, counted from its wire ends and pads: each point as one number, sorted, and equal ones gathered.
+mod keys;
+mod rows;
+mod sort;
+
+ghost use mathlib.Core.Path.{_≡_};
+ghost use Prim.Native.Nat.{_≤_};
+ghost use Rattle.sheet.specs.Lines.{marks};
+ghost use Rattle.sheet.specs.Joints.{jointsOf};
+ghost use Rattle.sheet.specs.Drawings.{wireRows, jointTable};
+ghost use Rattle.wires.specs.Tables.{pointRows};
+use sheet::Joints;
+use sheet::Wires;
+use wires::Points;
+
+// The joint rows of the wire ends and the pads, whatever their order.
+pub fn count_joints(ws: Wires, pads: Points) -> Joints
+    requires { ⌜ (ws .count ≤ 512) × (pads .count ≤ 384) ⌝ }
+    ensures { λ r. ⌜ r ≡ jointTable (jointsOf (marks (wireRows ws) (pointRows pads))) ⌝ }
+{
+    let ks = keys::mark_keys(ws, pads);
+    let sorted = sort::sort(ks);
+    rows::gathered(sorted)
+}

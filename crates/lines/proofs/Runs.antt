@@ -1,0 +1,69 @@
+-- A run over chunks comes to the lines of the whole input, whatever the states and the step: `in-chunks`. And the steps of a run, for
+-- a loop over the lines that end in a chunk: `run-line`, `run-more`, `run-end`.
+use mathlib.Core.Path.{_≡_, refl, sym, ap, _∙_}
+use mathlib.Core.Bool.{Bool, true, false, cond}
+use mathlib.Core.List.{List, [], _∷_, _++_}
+use Prim.Native.Nat.{ℕ, _≤_}
+use lib.Dec.{eqb}
+use lib.ListN.{length, take, drop, drop-of-length-le}
+use Rattle.lines.specs.Lines.{newline, linesFrom, linesOf}
+use Rattle.lines.specs.Chunks.{hold, Fed, line, more, feed}
+use Rattle.lines.specs.Runs.{Ran, ran, through, run, next, chunks, joined, finish}
+use Rattle.lines.proofs.Holding.{hold-take}
+
+-- ---- for lists
+
+-- two choices by one test
+both : {A B : Type 0} (R : A → B → Type 0) (t : Bool) {a a′ : A} {b b′ : B} → R a b → R a′ b′ → R (cond t a a′) (cond t b b′)
+both R true p q = p
+both R false p q = q
+
+module _ {S : Type 0} (step : S → List ℕ → S) where
+  -- ---- a chunk, line by line
+
+  abbrev after : S → Fed → Ran S
+  after x (line l s) = run step (step x l) [] s
+  after x (more held) = ran x held
+
+  run-feed : (x : S) (held s : List ℕ) → run step x held s ≡ after x (feed held s)
+  unfolding run feed
+  run-feed x held [] = refl
+  run-feed x held (b ∷ s) = both (λ r f. r ≡ after x f) (eqb b newline) refl (run-feed x (hold held b) s)
+
+  pub run-line : (x : S) (held s : List ℕ) {l rest : List ℕ} → line l rest ≡ feed held s → run step (step x l) [] rest ≡ run step x held s
+  run-line x held s e = ap (after x) e ∙ sym (run-feed x held s)
+
+  pub run-more : (x : S) (held s : List ℕ) {held′ : List ℕ} → more held′ ≡ feed held s → ran x held′ ≡ run step x held s
+  run-more x held s e = ap (after x) e ∙ sym (run-feed x held s)
+
+  pub run-end : (x : S) (held l : List ℕ) (i : ℕ) → length l ≤ i → run step x held (drop i l) ≡ ran x held
+  unfolding run
+  run-end x held l i h = rw (drop-of-length-le l h)
+
+  -- ---- chunk after chunk
+
+  run-append : (x : S) (held s t : List ℕ) → run step x held (s ++ t) ≡ next step (run step x held s) t
+  unfolding run
+  run-append x held [] t = refl
+  run-append x held (b ∷ s) t = both (λ r q. r ≡ next step q t) (eqb b newline) (run-append (step x held) [] s t) (run-append x (hold held b) s t)
+
+  chunks-are : (r : Ran S) (ss : List (List ℕ)) → chunks step r ss ≡ next step r (joined ss)
+  unfolding chunks joined run
+  chunks-are (ran x held) [] = refl
+  chunks-are (ran x held) (s ∷ ss) = chunks-are (run step x held s) ss ∙ sym (run-append x held s (joined ss))
+
+  -- ---- the whole input, by a step that does not tell a line from its first 81 bytes
+
+  module _ (same : (x : S) (l : List ℕ) → step x (take 81 l) ≡ step x l) where
+    whole : (x : S) (begun s : List ℕ) → finish step (run step x (take 81 begun) s) ≡ through step x (linesFrom begun s)
+    unfolding run through linesFrom
+    whole x [] [] = refl
+    whole x (c ∷ begun) [] = same x (c ∷ begun)
+    whole x begun (b ∷ s) =
+        both (λ r ls. finish step r ≡ through step x ls) (eqb b newline)
+        (whole (step x (take 81 begun)) [] s ∙ ap (λ y. through step y (linesFrom [] s)) (same x begun))
+        (ap (λ held. finish step (run step x held s)) (hold-take begun b) ∙ whole x (begun ++ (b ∷ [])) s)
+
+    pub in-chunks : (x : S) (ss : List (List ℕ)) → finish step (chunks step (ran x []) ss) ≡ through step x (linesOf (joined ss))
+    unfolding linesOf
+    in-chunks x ss = ap (finish step) (chunks-are (ran x []) ss) ∙ whole x [] (joined ss)

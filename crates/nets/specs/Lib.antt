@@ -1,0 +1,3 @@
+pub mod Nets
+pub mod Numbers
+pub mod Tables

@@ -1,0 +1,44 @@
+-- Pads come as blocks of three points, of which some count; block behind block, a table lists the pads of all components.
+use Prim.Native.Nat.{ℕ, _+_, _≤_}
+use native.Mathlib.Omega.{arith}
+use mathlib.Core.List.{List, [], _∷_, _++_}
+use mathlib.Core.Path.{_≡_, refl, sym, ap, subst, _∙_}
+use lib.ListN.{length, take, getD, set, replicate, length-append, length-set, length-take, length-replicate}
+use lib.Seq.{take-take, take-append-seam}
+use Rattle.lists.proofs.Tables.{three-of, take-three}
+use Rattle.symbol.specs.declared.Point.{Point}
+use Rattle.symbol.specs.declared.PadBlock.{PadBlock}
+use Rattle.symbol.specs.Symbols.{unused, padBlock}
+use Rattle.sheet.specs.declared.Component.{Component}
+use Rattle.sheet.specs.Parts.{pads}
+use Rattle.sheet.proofs.Parts.{length-pads}
+use Rattle.wires.specs.declared.Points.{Points}
+use Rattle.wires.specs.Tables.{pointRows}
+use Rattle.parts.specs.Tables.{Block, Listed}
+
+pub pad-block : (c : Component) {b : PadBlock} → b ≡ padBlock (c .kind) (c .«rot_mirror») (c .x) (c .y) → Block (pads c) b
+unfolding pads
+pad-block c e = subst (Block (pads c)) (sym e) (record {
+  size = omega (arith, length-take 3 (pads c ++ (unused ∷ unused ∷ unused ∷ [])), length-append (pads c) (unused ∷ unused ∷ unused ∷ []));
+  room = length-pads c;
+  count-is = refl;
+  points-are = take-take (length (pads c)) 3 (pads c ++ (unused ∷ unused ∷ unused ∷ [])) (length-pads c) ∙ take-append-seam (pads c) (unused ∷ unused ∷ unused ∷ []);
+})
+
+pub lists-none : Listed [] (record { rows = replicate 384 unused; count = 0 })
+lists-none = record { size = length-replicate 384 unused; room = omega arith; count-is = refl; points-are = refl }
+
+pub lists-block : {ps qs : List Point} {t : Points} {b : PadBlock} (z : Point) → Listed ps t → Block qs b → t .count + 3 ≤ 384
+    → Listed (ps ++ qs) (record { rows = set (set (set (t .rows) (t .count) (getD (b .points) 0 z)) (t .count + 1) (getD (b .points) 1 z)) (t .count + 2) (getD (b .points) 2 z); count = t .count + b .count })
+lists-block {ps} {qs} {t} {b} z h k r =
+    let p = getD (b .points) 0 z in
+    let q = getD (b .points) 1 z in
+    let s = getD (b .points) 2 z in
+    record {
+      size = length-set (set (set (t .rows) (t .count) p) (t .count + 1) q) (t .count + 2) s ∙ length-set (set (t .rows) (t .count) p) (t .count + 1) q ∙ length-set (t .rows) (t .count) p ∙ h .size;
+      room = omega (arith, k .room);
+      count-is = omega (arith, h .count-is, k .count-is, length-append ps qs);
+      points-are = take-three (t .rows) (t .count) (b .count) p q s (omega (arith, h .size)) (k .room)
+          ∙ ap (λ l. pointRows t ++ take (b .count) l) (sym (three-of (b .points) z (k .size)))
+          ∙ (λ i. h .points-are i ++ k .points-are i);
+    }

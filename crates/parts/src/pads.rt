@@ -1,0 +1,44 @@
+// The pads of one component, and of all.
+ghost use Rattle.sheet.specs.Parts;
+ghost use Rattle.sheet.specs.Drawings.{componentRows};
+ghost use Rattle.parts.specs.Tables.{PartsFit, Block, Listed};
+use sheet::Component;
+use sheet::Components;
+use symbol::PadBlock;
+use symbol::Point;
+use symbol::pads_at;
+use wires::Points;
+
+// The component's pads, in symbol order.
+pub fn pads_of(c: Component) -> PadBlock
+    requires { ⌜ Parts.PartFits c ⌝ }
+    ensures { λ r. ⌜ Block (Parts.pads c) r ⌝ }
+{
+    let o = c.rot_mirror;
+    pads_at(c.kind, o, c.x, c.y)
+}
+
+// The pads of all components, in row order.
+pub fn all_pads(cs: Components) -> Points
+    requires { ⌜ PartsFit cs ⌝ }
+    ensures { λ r. ⌜ Listed (Parts.padsOf (componentRows cs)) r ⌝ }
+{
+    let zero = Point { x: 0, y: 0 };
+    let rows = [zero; 384];
+    let mut out = Points { rows, count: 0 };
+    let n = cs.count;
+    let mut i = 0;
+    while i < n {
+        let c = cs.rows[i];
+        let b = pads_of(c);
+        let ps = b.points;
+        let m = b.count;
+        let k = out.count;
+        out.rows[k] = ps[0];
+        out.rows[k + 1] = ps[1];
+        out.rows[k + 2] = ps[2];
+        out.count = k + m;
+        i += 1;
+    }
+    out
+}

@@ -1,0 +1,98 @@
+-- The command of a line, as a function: `commandOf` gives what the grammar says (proofs/Meaning.antt).
+use mathlib.Core.Bool.{Bool, true, false, cond, _&&_}
+use mathlib.Core.List.{List, [], _∷_}
+use Prim.Native.Nat.{ℕ, zero, suc, _+_, _-_, _*_}
+use lib.ListN.{length}
+use lib.IntN.{ℤ, pos, negℤ}
+use lib.Dec.{leb, eqb}
+use Rattle.script.specs.declared.Command.{Command}
+use Rattle.script.specs.declared.Command.the-variants.{Horizontal, Vertical, Place, Delete, Turn, Mirror, Nets, Unreadable}
+use Rattle.script.specs.Grammar.{byte}
+
+-- what stands at the front of a text: a value, and the text behind it; or no such thing
+pub data Found (A : Type 0) : Type 0 where
+  found : A → List ℕ → Found A
+  missing : Found A
+
+-- go on with the value and the text behind it; or else e
+abbrev pub then : {A B : Type 0} → Found A → (A → List ℕ → B) → B → B
+then (found a s) f e = f a s
+then missing f e = e
+
+-- go on with the text behind the byte b; or else e
+abbrev pub behind : {B : Type 0} → ℕ → List ℕ → (List ℕ → B) → B → B
+behind b [] f e = e
+behind b (c ∷ s) f e = cond (eqb c b) (f s) e
+
+abbrev pub isDigit : ℕ → Bool
+isDigit b = leb (byte "0") b && leb b (byte "9")
+
+-- at most n digits, behind others whose value is v
+unfoldable pub digitsOf : ℕ → ℕ → List ℕ → Found ℕ
+digitsOf zero v s = found v s
+digitsOf (suc n) v [] = found v []
+digitsOf (suc n) v (b ∷ s) = cond (isDigit b) (digitsOf n (v * 10 + (b - byte "0")) s) (found v (b ∷ s))
+
+-- 1 to 6 digits: one, and at most five more
+unfoldable pub wholeOf : List ℕ → Found ℕ
+wholeOf [] = missing
+wholeOf (b ∷ s) = cond (isDigit b) (digitsOf 5 (b - byte "0") s) missing
+
+abbrev pub withSign : Bool → ℕ → ℤ
+withSign true v = negℤ (pos v)
+withSign false v = pos v
+
+-- 1 to 6 digits, behind a minus or not
+unfoldable pub signedOf : Bool → List ℕ → Found ℤ
+signedOf minus s = then (wholeOf s) (λ v. found (withSign minus v)) missing
+
+-- an optional minus and 1 to 6 digits
+unfoldable pub numberOf : List ℕ → Found ℤ
+numberOf s = behind (byte "-") s (signedOf true) (signedOf false s)
+
+-- a space and a number
+unfoldable pub fieldOf : List ℕ → Found ℤ
+fieldOf s = behind (byte " ") s numberOf missing
+
+-- three of these
+unfoldable pub threeOf : List ℕ → Found (ℤ × ℤ × ℤ)
+threeOf s =
+    then (fieldOf s) (λ a s. then (fieldOf s) (λ b s. then (fieldOf s) (λ c. found (a, b, c)) missing) missing) missing
+
+-- k, where the line ends here
+abbrev pub ending : Command → List ℕ → Command
+ending k [] = k
+ending k (b ∷ s) = Unreadable
+
+-- a line of a letter and three numbers: `h`, `v`, `d`, `r`, `m`
+unfoldable pub lettered : ℕ → ℤ → ℤ → ℤ → Command
+lettered letter a b c =
+    cond (eqb letter (byte "h")) (Horizontal a b c)
+    (cond (eqb letter (byte "v")) (Vertical a b c)
+    (cond (eqb letter (byte "d")) (Delete a b c)
+    (cond (eqb letter (byte "r")) (Turn a b c)
+    (cond (eqb letter (byte "m")) (Mirror a b c)
+    Unreadable))))
+
+unfoldable pub threeLine : ℕ → List ℕ → Command
+threeLine letter s = then (threeOf s) (λ t. ending (lettered letter (t .0) (t .1) (t .2))) Unreadable
+
+-- a line `p` of n bytes, whose label begins at its end, or behind a space if a byte follows
+unfoldable pub labelled : ℕ → (ℕ → Command) → List ℕ → Command
+labelled n f [] = f n
+labelled n f (b ∷ []) = Unreadable
+labelled n f (b ∷ c ∷ s) = cond (eqb b (byte " ")) (f (n - length (c ∷ s))) Unreadable
+
+unfoldable pub placeLine : ℕ → List ℕ → Command
+placeLine n s =
+    then (threeOf s) (λ t s. then (fieldOf s) (λ y. labelled n (Place (t .0) (t .1) (t .2) y)) Unreadable) Unreadable
+
+-- a line of any form, by its first byte
+unfoldable pub lineOf : List ℕ → Command
+lineOf [] = Unreadable
+lineOf (b ∷ s) =
+    cond (eqb b (byte "p")) (placeLine (length (b ∷ s)) s) (cond (eqb b (byte "n")) (ending Nets s) (threeLine b s))
+
+-- at most 80 bytes, and of any form
+unfoldable pub commandOf : List ℕ → Command
+commandOf s = cond (leb (length s) 80) (lineOf s) Unreadable

@@ -1,0 +1,33 @@
+-- Wires that go on in line, and what holds them apart.
+use mathlib.Core.Bool.{Bool, not}
+use mathlib.Core.List.{List}
+use mathlib.Core.Path.{_≡_, sym, subst, _∙_}
+use mathlib.Core.Logic.{⊎-elim, inl, inr}
+use native.Mathlib.Omega.{arith}
+use Rattle.lists.specs.Lists.{_∈_}
+use Rattle.symbol.specs.declared.Point.{Point}
+use Rattle.sheet.specs.declared.Wire.{Wire}
+use Rattle.sheet.specs.Lines.{tip, Ends, Follows, low, high}
+use Rattle.sheet.specs.Wiring.{Held, Ended, Wired}
+use Rattle.sheet.proofs.Lines.{same-dir, ends-at, ends-is, HasEnd, marks-in, in-marks}
+
+pub ends-follow : {p : Point} {a b : Wire} → a .vertical ≡ b .vertical → Ends high p a → Ends low p b → Follows a b
+ends-follow {p} d e f = let t = same-dir d p in record { dir = d; line = omega (arith, e .line, f .line); place = omega (arith, e .place, f .place) }
+
+pub follows-end : {a b : Wire} → Follows a b → Ends low (tip high a) b
+follows-end {a} f = let e = ends-at high a in let t = same-dir (f .dir) (tip high a) in record { line = omega (arith, e .line, f .line); place = omega (arith, e .place, f .place) }
+
+-- the direction of an end by another name
+pub ended-as : {ws : List Wire} {d e : Bool} {p : Point} → Ended ws d p → d ≡ e → Ended ws e p
+ended-as t x = record { wire = t .wire; among = t .among; dir = t .dir ∙ x; here = t .here }
+
+-- rule 4 at a point
+pub held-at : {ws : List Wire} {ps : List Point} → Wired ws ps → {p : Point} {a b : Wire} → a ∈ ws → b ∈ ws → a .vertical ≡ b .vertical → Ends high p a → Ends low p b → Held ws ps (a .vertical) p
+held-at {ws} {ps} l {a = a} {b} m n d e f = subst (Held ws ps (a .vertical)) (sym (ends-is e)) (l .anchored a b m n (ends-follow d e f))
+
+-- only which points are pads counts
+pub wired-pads : {ws : List Wire} {ps qs : List Point} → ((p : Point) → p ∈ ps → p ∈ qs) → ((p : Point) → p ∈ qs → p ∈ ps) → Wired ws ps → Wired ws qs
+wired-pads {ws} {ps} {qs} f g l = record {
+  clean = record { fits = l .clean .fits; order = l .clean .order; clear = λ p m. l .clean .clear p (in-marks (⊎-elim (λ (h : HasEnd p ws). inl h) (λ (k : p ∈ qs). inr (g p k)) (marks-in ws m))) };
+  anchored = λ a b m n e. ⊎-elim (λ (r : Ended ws (not (a .vertical)) (tip high a)). inl r) (λ (r : tip high a ∈ ps). inr (f (tip high a) r)) (l .anchored a b m n e);
+}
