@@ -1,7 +1,7 @@
 -- `any` over lists that are gathered, mapped or tested in another way.
 use mathlib.Core.Path.{_≡_, refl, ap, _∙_}
 use mathlib.Core.List.{List, [], _∷_, map}
-use mathlib.Core.Bool.{Bool, true, false, _||_}
+use mathlib.Core.Bool.{Bool, false, _||_}
 use Rattle.lists.specs.Lists.{any, gather}
 use Rattle.lists.proofs.Lists.{any-append}
 

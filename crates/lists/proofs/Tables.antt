@@ -23,6 +23,12 @@ module _ {A : Type 0} where
   row-in (x ∷ rows) (suc n) zero d h k = ∈-head refl
   row-in (x ∷ rows) (suc n) (suc i) d h k = ∈-tail (row-in rows n i d (le-of-suc-le-suc h) (le-of-suc-le-suc k))
 
+  -- a row that is there does not depend on what is read where there is none
+  pub same-row : (rows : List A) (i : ℕ) (d e : A) → i < length rows → getD rows i d ≡ getD rows i e
+  same-row [] i d e h = absurd (not-suc-le-zero h)
+  same-row (x ∷ rows) zero d e h = refl
+  same-row (x ∷ rows) (suc i) d e h = same-row rows i d e (le-of-suc-le-suc h)
+
   -- ---- a table and its list
 
   pub length-snoc : (xs : List A) (x : A) → length (xs ++ (x ∷ [])) ≡ length xs + 1

@@ -1,5 +1,5 @@
 -- Marks as numbers: a mark is among others exactly when its number is, and what holds wires apart is one of two marks.
-use Prim.Native.Nat.{ℕ, _+_, _*_, _≤_, _<_}
+use Prim.Native.Nat.{ℕ, _+_, _*_, _<_}
 use native.Mathlib.Omega.{arith}
 use mathlib.Core.Path.{_≡_, refl, sym, ap, _∙_, subst}
 use mathlib.Core.List.{List, [], _∷_, _++_, map, append-nil, append-assoc, List·Memᴰ·head as ∈-head, List·Memᴰ·tail as ∈-tail, List·Memᴰ·not-nil as ∈-nil, List·Memᴰ·append-cases as ∈-append}
@@ -9,7 +9,7 @@ use lib.Dec.{eqb}
 use lib.ListN.{length, take, set}
 use Rattle.symbol.specs.declared.Point.{Point}
 use Rattle.lists.specs.Lists.{_∈_, any, gather}
-use Rattle.lists.proofs.Tests.{Reads, reads-as, same-test, eqb-reads, and-reads}
+use Rattle.lists.proofs.Tests.{reads-as, same-test, eqb-reads, and-reads}
 use Rattle.lists.proofs.Lists.{any-append, in-cons}
 use Rattle.lists.proofs.Tables.{take-push, take-push-two}
 use Rattle.lists.proofs.Somes.{any-as, any-never, any-gather, any-map}
@@ -29,12 +29,6 @@ coded-none = record { are = refl; small = λ m k. absurd (∈-nil k) }
 -- the number of a mark, where its kind and its point are known by other names
 pub coded-as : {k l x : ℕ} {p q : Point} → (x ≡ codeOf (mark k p)) × Small (mark k p) → k ≡ l → p ≡ q → (x ≡ codeOf (mark l q)) × Small (mark l q)
 coded-as {x = x} t e f = subst (λ (m : Mark). (x ≡ codeOf m) × Small m) (λ i. mark (e i) (f i)) t
-
--- for lists
-pub gather-map : {A B : Type 0} (f : A → B) (xs : List A) → gather (λ x. f x ∷ []) xs ≡ map f xs
-unfolding gather
-gather-map f [] = refl
-gather-map {B = B} f (x ∷ xs) = ap {B = List B} (λ l. f x ∷ l) (gather-map f xs)
 
 map-append : (ms ns : List Mark) → map codeOf (ms ++ ns) ≡ map codeOf ms ++ map codeOf ns
 map-append [] ns = refl

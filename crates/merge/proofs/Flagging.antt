@@ -1,25 +1,20 @@
 -- The flags of the wires' high ends, one row after another.
-use Prim.Native.Nat.{ℕ, zero, suc, _+_, _≤_, _<_}
-use native.Mathlib.Nat.{not-suc-le-zero, le-of-suc-le-suc}
+use Prim.Native.Nat.{ℕ, _+_, _≤_, _<_}
+use native.Mathlib.Nat.{not-suc-le-zero}
 use native.Mathlib.Omega.{arith}
-use mathlib.Core.Path.{_≡_, refl, sym, ap, _∙_, subst}
-use mathlib.Core.List.{List, [], _∷_}
+use mathlib.Core.Path.{_≡_, sym, ap, _∙_, subst}
+use mathlib.Core.List.{List}
 use mathlib.Core.Logic.{⊎-elim}
 use mathlib.Core.Bool.{Bool, false}
 use lib.ListN.{length, getD, take, set}
 use lib.Seq.{getD-take, length-take-le, getD-set-same, getD-set-other}
 use Rattle.symbol.specs.declared.Point.{Point}
 use Rattle.lists.proofs.Tests.{decide, eqb-reads}
+use Rattle.lists.proofs.Tables.{same-row}
 use Rattle.sheet.specs.declared.Wire.{Wire}
 use Rattle.sheet.specs.Lines.{high, tip}
 use Rattle.sheet.specs.Merge.{held}
 use Rattle.merge.specs.Codes.{marksOf, Coded, Flagged}
-
--- for lists
-same-row : {A : Type 0} (l : List A) (i : ℕ) (d e : A) → i < length l → getD l i d ≡ getD l i e
-same-row [] i d e h = absurd (not-suc-le-zero h)
-same-row (x ∷ l) zero d e h = refl
-same-row (x ∷ l) (suc i) d e h = same-row l i d e (le-of-suc-le-suc h)
 
 -- the first i flags are right, whatever pads there are besides
 pub record Flagging (rows : List Wire) (n : ℕ) (cs : List ℕ) (i : ℕ) (flags : List Bool) : Type 0 where

@@ -8,14 +8,14 @@ use lib.Dec.{T, eqb}
 use lib.ListN.{length, take, getD, set}
 use lib.Seq.{getD-take, length-take-le}
 use Rattle.symbol.specs.declared.Point.{Point}
-use Rattle.lists.proofs.Tests.{holds}
+use Rattle.lists.proofs.Tests.{holds, and-reads, beq-reads, eqb-reads}
 use Rattle.lists.proofs.Tables.{holds-push, holds-as}
 use Rattle.lists.proofs.Walks.{rows-from, Rest, rest-next, rest-end}
 use Rattle.sheet.specs.declared.Wire.{Wire}
 use Rattle.sheet.specs.declared.Wires.{Wires}
 use Rattle.sheet.specs.Lines.{high, tip, point}
 use Rattle.sheet.specs.Merge.{held, joins, join, mergeBy, merge, mergeFrom}
-use Rattle.sheet.proofs.Merge.{merge-forward, follows-reads}
+use Rattle.sheet.proofs.Merge.{merge-forward}
 use Rattle.wires.specs.Tables.{Tabled}
 use Rattle.merge.specs.Codes.{Flagged}
 
@@ -37,7 +37,9 @@ joins-test h a b e f = rw (e, f) (last-and (Bool·beq (a .vertical) (b .vertical
 
 -- a wire that goes on ends where its last part ends
 joined-held : (h : Bool → Point → Bool) (a b : Wire) → inLine a b ≡ true → h (b .vertical) (tip high b) ≡ h (join a b .vertical) (tip high (join a b))
-joined-held h a b e = let f = holds (follows-reads a b) (subst T (sym e) tt) in λ i. h (sym (f .dir) i) (point (sym (f .dir) i) (sym (f .line) i) (b .end))
+joined-held h a b e =
+    let t = holds (and-reads (beq-reads (a .vertical) (b .vertical)) (and-reads (eqb-reads (a .line) (b .line)) (eqb-reads (a .end) (b .start)))) (subst T (sym e) tt) in
+    λ i. h (sym (t .0) i) (point (sym (t .0) i) (sym (t .1 .0) i) (b .end))
 
 and-first : (x y : Bool) → (x && y) ≡ true → x ≡ true
 and-first true y e = refl

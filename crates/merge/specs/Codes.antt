@@ -2,13 +2,11 @@
 use Prim.Native.Nat.{ℕ, _+_, _*_, _≤_, _<_}
 use mathlib.Core.Path.{_≡_}
 use mathlib.Core.List.{List, [], _∷_, _++_, map}
-use mathlib.Core.Bool.{Bool, true, false, _&&_}
-use lib.Dec.{eqb}
+use mathlib.Core.Bool.{Bool, true, false}
 use lib.ListN.{length, take, getD}
 use Rattle.symbol.specs.declared.Point.{Point}
 use Rattle.lists.specs.Lists.{_∈_, gather}
 use Rattle.sheet.specs.declared.Wire.{Wire}
-use Rattle.sheet.specs.Points.{same}
 use Rattle.sheet.specs.Lines.{low, high, tip}
 use Rattle.sheet.specs.Merge.{held}
 use Rattle.merge.specs.declared.Numbers.{Numbers}

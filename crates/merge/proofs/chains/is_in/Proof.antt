@@ -1,6 +1,6 @@
 -- If the number is one of the first n, it is still to be met on its chain.
 use Prim.Native.Nat.{ℕ, _≤_, _-_}
-use mathlib.Core.Path.{_≡_, sym, ap, _∙_}
+use mathlib.Core.Path.{sym, ap, _∙_}
 use lib.ListN.{take, getD, length-take}
 use lib.Seq.{getD-take}
 use Rattle.merge.proofs.Chaining.{Sought, sought-start, sought-at, sought-falls, sought-next, sought-here, sought-end}

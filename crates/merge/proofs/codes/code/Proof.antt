@@ -1,5 +1,4 @@
 -- The sum fits, and both numbers are below 65,536.
-use mathlib.Core.Path.{_≡_}
 use Rattle.merge.specs.Codes.{codeOf}
 use borrow.Author.Needs.{needs}
 use native.Mathlib.Omega.{arith}

@@ -4,9 +4,9 @@ use mathlib.Core.Path.{_≡_, refl}
 use mathlib.Core.List.{[], _∷_}
 use lib.ListN.{length, length-set}
 use Rattle.lists.proofs.Tables.{long}
-use Rattle.lists.proofs.Passes.{Pass, pass-start, pass-next, pass-end}
+use Rattle.lists.proofs.Passes.{Pass, pass-start, pass-next, pass-end, gather-map}
 use Rattle.merge.specs.Codes.{mark}
-use Rattle.merge.proofs.Coding.{gather-map, Behind, behind-none, behind-one, behind-as}
+use Rattle.merge.proofs.Coding.{Behind, behind-none, behind-one, behind-as}
 use native.Mathlib.Omega.{arith}
 use Rattle.merge.proofs.codes.pad_codes.Statement.{statement}
 use Rattle.merge.proofs.codes.pad_codes.Tie as tie
