@@ -10,7 +10,7 @@ use mir.Syntax.{w16, w32}
 use mir.Val.{SFits, Fits, toZ, ofZ}
 use mir.Facts.{toZ-ofZ, toZ-pos}
 use borrow.Author.Tests.{ltb-true, ltb-false, le-leb, lt-leb, leb-true, leb-false}
-use Rattle.edge.specs.Coordinates.{toℕ, coordOf, biased, placeOf, insideOf}
+use Rattle.edge.specs.Coordinates.{toℕ, coordOf, biased, placeOf, insideOf, placedReply}
 use Rattle.edge.specs.declared.Placed.the-variants.{Inside, Outside}
 use Rattle.lists.proofs.Tests.{agree, both-T, both-l, both-r}
 use Rattle.edge.proofs.Whole.{sub-pos, sub-neg, biased-sub, mag-sub}
@@ -22,6 +22,15 @@ outside k z h = sym (λ i. cond (lt-leb (natAbs z) k h i) (Inside (biased z)) Ou
 pub inside : (k : ℕ) (z : ℤ) → natAbs z ≤ k → Inside (biased z) ≡ placeOf k z
 unfolding placeOf
 inside k z h = sym (λ i. cond (le-leb (natAbs z) k h i) (Inside (biased z)) Outside)
+
+-- the reply of each case: 0 in the range, else 1
+pub placed-reply : (k : ℕ) (z : ℤ) → placedReply (placeOf k z) ≡ cond (leb (natAbs z) k) 0 1
+unfolding placeOf
+placed-reply k z = go (leb (natAbs z) k)
+  where
+    go : (b : Bool) → placedReply (cond b (Inside (biased z)) Outside) ≡ cond b 0 1
+    go true = refl
+    go false = refl
 
 pub too-low : (k : ℕ) (z : ℤ) → ltZ z (negsuc k) ≡ true → suc k < natAbs z
 too-low k (pos n) e = absurd (subst T (sym e) tt)

@@ -2,16 +2,26 @@
 use mathlib.Core.Path.{_≡_, refl, sym, ap, _∙_, subst}
 use Prim.Native.Nat.{_≤_}
 use native.Mathlib.Omega.{arith}
-use mathlib.Core.Bool.{true, false, cond}
-use lib.Dec.{T}
+use mathlib.Core.Bool.{Bool, true, false, _&&_, cond}
+use lib.Dec.{T, leb}
 use lib.IntN.{ℤ, pos, negsuc, natAbs}
 use lib.Signed.{ltZ, nonNeg}
 use mir.Syntax.{w16, w32}
 use mir.Val.{SFits, Fits, toZ, ofZ}
 use mir.Facts.{toZ-ofZ}
 use borrow.Author.Tests.{ltb-true, ltb-false, le-leb, lt-leb}
-use Rattle.edge.specs.Coordinates.{sizeOf}
+use Rattle.edge.specs.Coordinates.{sizeOf, sizedReply}
 use Rattle.edge.specs.declared.Sized.the-variants.{Is, Wrong}
+
+-- the reply of each case: 0 from 0 to 1,000, else 3
+pub sized-reply : (z : ℤ) → sizedReply (sizeOf z) ≡ cond (nonNeg z && leb (natAbs z) 1000) 0 3
+unfolding sizeOf
+sized-reply (pos n) = go (leb n 1000)
+  where
+    go : (b : Bool) → sizedReply (cond b (Is n) Wrong) ≡ cond b 0 3
+    go true = refl
+    go false = refl
+sized-reply (negsuc n) = refl
 
 negative : (z : ℤ) → ltZ z (pos 0) ≡ true → Wrong ≡ sizeOf z
 unfolding sizeOf

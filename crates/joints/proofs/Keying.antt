@@ -1,10 +1,10 @@
 -- Keys of points: one more, and how many there are.
-use Prim.Native.Nat.{ℕ, suc, _+_, _*_, _≤_, _<_, _/_, _%_}
+use Prim.Native.Nat.{ℕ, suc, _+_, _*_, _≤_, _<_}
 use native.Mathlib.Omega.{arith}
 use mathlib.Core.Bool.{Bool, true, false, cond}
 use mathlib.Core.List.{List, [], _∷_, _++_, map, map-append, append-assoc, append-nil}
 use mathlib.Core.Path.{_≡_, refl, sym, ap, ap₂, subst, _∙_}
-use lib.ListN.{length, take, getD, set, length-set, length-append, length-take}
+use lib.ListN.{length, take, getD, set, length-set, length-append}
 use Rattle.lists.specs.Lists.{keep}
 use Rattle.lists.proofs.Tables.{take-push}
 use Rattle.lists.proofs.Passes.{take-more}

@@ -6,8 +6,8 @@ use native.Mathlib.Omega.{arith}
 use mathlib.Core.Bool.{Bool, true, false, _&&_}
 use mathlib.Core.List.{List, [], _∷_}
 use lib.Dec.{leb}
-use lib.ListN.{length, getD, set, take, drop, length-take}
-use lib.Seq.{drop-cons, drop-length, getD-take}
+use lib.ListN.{length, getD, set, take, drop, length-take, drop-of-length-le}
+use lib.Seq.{drop-cons, getD-take}
 use borrow.Author.Tests.{le-leb, lt-leb}
 use Rattle.lists.specs.Lists.{all}
 use Rattle.label.specs.Labels.{graphic, padded, given, judged, heldLabel}
@@ -49,7 +49,7 @@ module _ (g : List ℕ) (n : ℕ) (fits : n ≤ length g) where
 
   pub test-end : all graphic (drop n (take n g)) ≡ true
   unfolding all
-  test-end = let e : length (take n g) ≡ n = simp length-take (omega arith) in ap (λ (k : ℕ). all graphic (drop k (take n g))) (sym e) ∙ ap (all graphic) (drop-length (take n g))
+  test-end = ap (all graphic) (drop-of-length-le (take n g) {i = n} (simp length-take (omega arith)))
 
 -- ---- the ways out
 module _ (l : Label) where

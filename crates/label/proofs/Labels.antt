@@ -1,17 +1,15 @@
 -- The leading part of a label, and the test of a label's bytes, one byte at a time. Past the end of a list `getD` gives 0, so no step asks for a length.
-use mathlib.Core.Path.{_≡_, refl, sym, ap, _∙_, subst}
+use mathlib.Core.Path.{_≡_, refl, sym, ap, _∙_}
 use Prim.Native.Nat.{ℕ, zero, suc, _+_, _<_, _≤_}
 use native.Mathlib.Omega.{arith}
-use native.Mathlib.Nat.{le-of-suc-le-suc, not-suc-le-zero}
 use native.Mathlib.Numerals.{add-one}
 use mathlib.Core.Bool.{Bool, true, false, not, _&&_, cond}
-use mathlib.Core.List.{List, [], _∷_, _++_}
-use lib.Dec.{T, leb, eqb, eqb→eq}
-use lib.ListN.{length, getD, take, drop, replicate}
-use borrow.Author.Tests.{eq-eqb, ne-eqb, le-leb, lt-leb}
-use Rattle.label.specs.Labels.{takeWhile, labelPart, graphic, allZero, labelOk}
+use mathlib.Core.List.{List, [], _∷_}
+use lib.Dec.{eqb}
+use lib.ListN.{length, getD, take, drop, drop-of-length-le}
+use borrow.Author.Tests.{eq-eqb, ne-eqb}
 use Rattle.lists.specs.Lists.{all}
-use Rattle.lists.proofs.Tests.{both-l, both-r, both-T}
+use Rattle.label.specs.Labels.{takeWhile, labelPart, graphic, allZero, labelOk}
 
 -- ---- the leading part: no zero below i, and a zero, or the end, at i
 pub leading : (l : List ℕ) (i : ℕ) → ((k : ℕ) → k < i → getD l k 0 ≡ 0 → ⊥) → getD l i 0 ≡ 0 → take i l ≡ labelPart l
@@ -22,11 +20,6 @@ leading (b ∷ l) zero f e = sym (λ j. cond (not (eq-eqb b 0 e j)) (b ∷ takeW
 leading (b ∷ l) (suc i) f e =
     ap {B = List ℕ} (λ r. b ∷ r) (leading l i (λ k h. f (suc k) (omega arith)) e)
     ∙ sym (λ j. cond (not (ne-eqb b 0 (f zero (omega arith)) j)) (b ∷ takeWhile (λ b. not (eqb b 0)) l) [])
-
-pub past-end : (l : List ℕ) (i : ℕ) → length l ≤ i → getD l i 0 ≡ 0
-past-end [] i h = refl
-past-end (b ∷ l) zero h = absurd (not-suc-le-zero h)
-past-end (b ∷ l) (suc i) h = past-end l i (le-of-suc-le-suc h)
 
 -- ---- the bytes from k on are zero
 zero-step : (l : List ℕ) (k : ℕ) → allZero (drop k l) ≡ (eqb (getD l k 0) 0 && allZero (drop (suc k) l))
@@ -44,10 +37,7 @@ no-zero l k f = zero-step l k ∙ (λ i. ne-eqb (getD l k 0) 0 f i && allZero (d
 
 pub zero-end : (l : List ℕ) (k : ℕ) → length l ≤ k → allZero (drop k l) ≡ true
 unfolding all
-zero-end [] zero h = refl
-zero-end [] (suc k) h = refl
-zero-end (b ∷ l) zero h = absurd (not-suc-le-zero h)
-zero-end (b ∷ l) (suc k) h = zero-end l k (le-of-suc-le-suc h)
+zero-end l k h = ap allZero (drop-of-length-le l h)
 
 -- ---- the bytes from k on are a label's
 ok-step : (l : List ℕ) (k : ℕ) → labelOk (drop k l) ≡ cond (graphic (getD l k 0)) (labelOk (drop (suc k) l)) (allZero (drop k l))
@@ -57,27 +47,10 @@ ok-step [] (suc k) = refl
 ok-step (b ∷ l) zero = refl
 ok-step (b ∷ l) (suc k) = ok-step l k
 
-ok-case : (l : List ℕ) (k : ℕ) (t : Bool) → graphic (getD l k 0) ≡ t → labelOk (drop k l) ≡ cond t (labelOk (drop (suc k) l)) (allZero (drop k l))
-ok-case l k t e = ok-step l k ∙ (λ i. cond (e i) (labelOk (drop (suc k) l)) (allZero (drop k l)))
-
-and-false : (a : Bool) → a && false ≡ false
-and-false true = refl
-and-false false = refl
-
-pub ok-low : (l : List ℕ) (k : ℕ) → getD l k 0 < 0x21 → labelOk (drop k l) ≡ allZero (drop k l)
-ok-low l k h = ok-case l k false (λ i. lt-leb 0x21 (getD l k 0) h i && leb (getD l k 0) 0x7e)
-
-pub ok-high : (l : List ℕ) (k : ℕ) → 0x7e < getD l k 0 → labelOk (drop k l) ≡ false
-ok-high l k h =
-    ok-case l k false ((λ i. leb 0x21 (getD l k 0) && lt-leb (getD l k 0) 0x7e h i) ∙ and-false (leb 0x21 (getD l k 0)))
-    ∙ no-zero l k (λ e. omega arith)
-
-pub ok-next : (l : List ℕ) (k : ℕ) → 0x21 ≤ getD l k 0 → getD l k 0 ≤ 0x7e → labelOk (drop k l) ≡ labelOk (drop (k + 1) l)
-ok-next l k g h = ok-case l k true (λ i. le-leb 0x21 (getD l k 0) g i && le-leb (getD l k 0) 0x7e h i) ∙ (λ i. labelOk (drop (sym (add-one k) i) l))
+-- by the code's test of the byte at k
+pub ok-case : (l : List ℕ) (k : ℕ) (t : Bool) → graphic (getD l k 0) ≡ t → labelOk (drop k l) ≡ cond t (labelOk (drop (k + 1) l)) (allZero (drop k l))
+ok-case l k t e = ok-step l k ∙ (λ i. cond (e i) (labelOk (drop (sym (add-one k) i) l)) (allZero (drop k l)))
 
 pub ok-end : (l : List ℕ) (k : ℕ) → length l ≤ k → labelOk (drop k l) ≡ true
 unfolding labelOk
-ok-end [] zero h = refl
-ok-end [] (suc k) h = refl
-ok-end (b ∷ l) zero h = absurd (not-suc-le-zero h)
-ok-end (b ∷ l) (suc k) h = ok-end l k (le-of-suc-le-suc h)
+ok-end l k h = ap labelOk (drop-of-length-le l h)

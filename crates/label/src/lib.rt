@@ -15,6 +15,18 @@ pub struct Held {
     pub bytes: [u8; 16],
 }
 
+const REFUSED: Held = Held {
+    reply: 5,
+    bytes: [0u8; 16],
+};
+
+// Whether a label may have the byte.
+fn is_graphic(b: u8) -> bool
+    ensures { λ r. ⌜ r ≡ graphic b ⌝ }
+{
+    (0x21 <= b) & (b <= 0x7e)
+}
+
 // The label that a slice of any length gives.
 pub fn label_of(s: &[u8]) -> Label
     ensures { λ r. ⌜ r ≡ labelOf (now (s .entry)) ⌝ }
@@ -37,13 +49,6 @@ pub fn label_of(s: &[u8]) -> Label
     }
 }
 
-// Whether a label may have the byte.
-fn is_graphic(b: u8) -> bool
-    ensures { λ r. ⌜ r ≡ graphic b ⌝ }
-{
-    (0x21 <= b) & (b <= 0x7e)
-}
-
 // The label as rows hold it, or the refusal: too long, or with another byte than 0x21 to 0x7E.
 pub fn held_label(l: Label) -> Held
     ensures { λ r. ⌜ r ≡ heldLabel l ⌝ }
@@ -51,10 +56,7 @@ pub fn held_label(l: Label) -> Held
     let given = l.bytes;
     let length = l.length;
     if 16 < length {
-        return Held {
-            reply: 5,
-            bytes: [0u8; 16],
-        };
+        return REFUSED;
     }
     let mut bytes = [0u8; 16];
     let mut i = 0;
@@ -64,10 +66,7 @@ pub fn held_label(l: Label) -> Held
             bytes[i] = b;
             i += 1;
         } else {
-            return Held {
-                reply: 5,
-                bytes: [0u8; 16],
-            };
+            return REFUSED;
         }
     }
     Held { reply: 0, bytes }
@@ -88,7 +87,7 @@ pub fn label_part(bytes: &[u8]) -> &[u8]
 }
 
 // Whether the bytes from i on are all zero.
-fn zeros_from(bytes: &[u8], i: usize) -> bool
+pub fn zeros_from(bytes: &[u8], i: usize) -> bool
     ensures { λ r. ⌜ r ≡ allZero (drop i (now (bytes .entry))) ⌝ }
 {
     let mut k = i;
@@ -107,13 +106,11 @@ fn bytes_ok(bytes: &[u8]) -> bool
 {
     let mut i = 0;
     while i < bytes.len() {
-        if bytes[i] < 0x21 {
+        if is_graphic(bytes[i]) {
+            i += 1;
+        } else {
             return zeros_from(bytes, i);
         }
-        if 0x7e < bytes[i] {
-            return false;
-        }
-        i += 1;
     }
     true
 }

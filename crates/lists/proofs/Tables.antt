@@ -108,11 +108,11 @@ module _ {A : Type 0} where
 
   -- ---- zero rows behind
 
-  all-zero : (z : A) (xs : List A) → ((x : A) → x ∈ xs → x ≡ z) → xs ≡ replicate (length xs) z
+  pub all-zero : (z : A) (xs : List A) → ((x : A) → x ∈ xs → x ≡ z) → xs ≡ replicate (length xs) z
   all-zero z [] h = refl
   all-zero z (x ∷ xs) h = ap₂ {C = List A} (λ y ys. y ∷ ys) (h x (∈-head refl)) (all-zero z xs (λ y m. h y (∈-tail m)))
 
-  zeros-only : (z : A) (k : ℕ) {x : A} → x ∈ replicate k z → x ≡ z
+  pub zeros-only : (z : A) (k : ℕ) {x : A} → x ∈ replicate k z → x ≡ z
   zeros-only z zero m = absurd (∈-nil m)
   zeros-only z (suc k) m = in-cons (λ x. x ≡ z) refl (λ x n. zeros-only z k n) m
 

@@ -8,7 +8,7 @@ use mathlib.Core.Path.{_≡_, refl, sym, ap, _∙_}
 use mathlib.Core.List.{List, [], _∷_}
 use mathlib.Core.Bool.{Bool, true, false}
 use lib.ListN.{length, getD, take, drop, drop-of-length-le}
-use lib.Seq.{drop-cons, length-take-le, getD-take}
+use lib.Seq.{drop-cons, length-take-le, getD-take, take-all}
 use Rattle.lists.specs.Lists.{any, all, pairs, links}
 use Rattle.lists.specs.Places.{span}
 
@@ -45,6 +45,10 @@ module _ {A : Type 0} where
 
   pub rest-at : {B : Type 0} (f : List A → B) (l : List A) (n i : ℕ) → Rest f l n i (f (drop i (take n l)))
   rest-at f l n i = record { same = refl }
+
+  -- the rows from k on, of all
+  pub rest-from : {B : Type 0} (f : List A → B) (l : List A) (n k : ℕ) → length l ≡ n → Rest f l n k (f (drop k l))
+  rest-from f l n k e = record { same = ap (λ (r : List A). f (drop k r)) (sym (take-all n l (omega arith))) }
 
   -- ---- some row passes
 
@@ -97,6 +101,14 @@ module _ {A : Type 0} where
 
   pub links-start : (f : A → A → Bool) (l : List A) (n : ℕ) (d : A) → 0 < n → n ≤ length l → Linked f l n 1 (getD l 0 d) (links f (take n l))
   links-start f l n d h k = record { from = record { same = ap (links f) (rows-from l n 0 d h k) } }
+
+  -- the same where the length is told apart
+  pub links-begin : (f : A → A → Bool) (l : List A) (n m : ℕ) (d : A) → 0 < n → n ≤ m → length l ≡ m → Linked f l n 1 (getD l 0 d) (links f (take n l))
+  links-begin f l n m d h k e = links-start f l n d h (omega arith)
+
+  pub links-none : (f : A → A → Bool) (l : List A) (n : ℕ) → n ≡ 0 → true ≡ links f (take n l)
+  unfolding links
+  links-none f l n e = rw e
 
   module _ {f : A → A → Bool} {l : List A} {n i : ℕ} {x : A} {b : Bool} where
     pub links-next : (d : A) → Linked f l n i x b → f x (getD l i d) ≡ true → i < n → n ≤ length l → Linked f l n (i + 1) (getD l i d) b

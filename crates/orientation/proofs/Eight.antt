@@ -1,9 +1,12 @@
--- What holds of the eight holds of every orientation that has a number; the turns' laws.
+-- One of the eight: what holds of each of the eight holds of every orientation that has a number. The search for the number, and the numbers as
+-- the machine reads, writes and negates them.
 use mathlib.Core.Path.{_≡_, refl, sym, ap, _∙_, subst}
-use Prim.Native.Nat.{ℕ, suc, _<_, _≤_, _+_}
+use Prim.Native.Nat.{ℕ, zero, suc, _<_, _≤_, _+_}
+use native.Mathlib.Nat.{eq-or-lt-of-le, le-of-suc-le-suc}
 use native.Mathlib.Omega.{arith}
 use mathlib.Core.Bool.{Bool, true, false, _&&_, cond}
-use mathlib.Core.List.{List, [], _∷_}
+use mathlib.Core.List.{List, [], _∷_, List·Memᴰ·head as ∈-head, List·Memᴰ·tail as ∈-tail}
+use mathlib.Core.Logic.{⊎-elim}
 use lib.Dec.{T}
 use lib.IntN.{ℤ, pos, negsuc, negℤ, _-ℤ_}
 use mir.Syntax.{w8}
@@ -13,12 +16,24 @@ use lib.ListN.{drop}
 use lib.Seq.{drop-cons}
 use native.Mathlib.Numerals.{add-one}
 use borrow.Author.Tests.{lt-ltb}
+use Rattle.lists.specs.Lists.{_∈_, all}
+use Rattle.lists.proofs.Tests.{both-l, both-r, test, holds}
+use Rattle.lists.proofs.Lists.{all-reads}
 use Rattle.orientation.specs.Orientations.{eqZ, turn, eight, zeros, sameOf, seek, numberOf, isAt, known, eighth, numberedOf, done, refused, turnedBy}
 use Rattle.orientation.specs.declared.RotMirror.{RotMirror}
 use Rattle.orientation.specs.declared.Number.the-variants.{At, Unknown}
-use Rattle.lists.proofs.Tests.{both-l, both-r}
 use Rattle.orientation.proofs.Bits.{eqZ→eq}
 
+-- ---- P holds of each of a list
+abbrev pub Each : {A : Type 0} → (A → Type 0) → List A → Type 0
+Each P [] = Unit {0}
+Each P (p ∷ ps) = P p × Each P ps
+
+pub each : {A : Type 0} (P : A → Type 0) {x : A} {xs : List A} → x ∈ xs → Each P xs → P x
+each P (∈-head e) h = subst P (sym e) (h .0)
+each P (∈-tail m) h = each P m (h .1)
+
+-- ---- an orientation that has a number is among the eight
 pub same-eq : (o p : RotMirror) → T (sameOf o p) → o ≡ p
 unfolding sameOf
 same-eq o p t =
@@ -29,26 +44,37 @@ same-eq o p t =
     let t2 = both-r y (z && w) t1 in
     λ i. turn (eqZ→eq (o .0) (p .0) (both-l (eqZ (o .0) (p .0)) (y && (z && w)) t) i) (eqZ→eq (o .1) (p .1) (both-l y (z && w) t1) i) (eqZ→eq (o .2) (p .2) (both-l z w t2) i) (eqZ→eq (o .3) (p .3) (both-r z w t2) i)
 
--- P holds of each of a list
-abbrev Each : (RotMirror → Type 0) → List RotMirror → Type 0
-Each P [] = Unit {0}
-Each P (p ∷ ps) = P p × Each P ps
-
-sought : (P : RotMirror → Type 0) (o : RotMirror) (n : ℕ) (ps : List RotMirror) → Each P ps → T (isAt (seek o n ps)) → P o
-sought P o n [] e t = absurd t
-sought P o n (p ∷ ps) e t = go (sameOf o p) (same-eq o p) (sought P o (suc n) ps (e .1)) t
+sought : (o : RotMirror) (n : ℕ) (ps : List RotMirror) → T (isAt (seek o n ps)) → o ∈ ps
+sought o n [] t = absurd t
+sought o n (p ∷ ps) t = go (sameOf o p) (same-eq o p) (sought o (suc n) ps) t
   where
-    go : (b : Bool) → (T b → o ≡ p) → (T (isAt (seek o (suc n) ps)) → P o) → T (isAt (cond b (At n) (seek o (suc n) ps))) → P o
-    go true h k t = subst P (sym (h tt)) (e .0)
-    go false h k t = k t
+    go : (b : Bool) → (T b → o ≡ p) → (T (isAt (seek o (suc n) ps)) → o ∈ ps) → T (isAt (cond b (At n) (seek o (suc n) ps))) → o ∈ p ∷ ps
+    go true h k t = ∈-head (h tt)
+    go false h k t = ∈-tail (k t)
+
+pub known-in : (o : RotMirror) → T (known o) → o ∈ eight
+unfolding numberOf
+known-in o t = sought o 0 eight t
 
 -- what holds of the eight holds of each orientation that has a number
 pub of-eight : (P : RotMirror → Type 0) → Each P eight → (o : RotMirror) → T (known o) → P o
-unfolding numberOf
-of-eight P e o t = sought P o 0 eight e t
+of-eight P h o t = each P (known-in o t) h
+
+-- and a test that the eight pass
+pub test-eight : (f : RotMirror → Bool) → T (all f eight) → (o : RotMirror) → T (known o) → T (f o)
+test-eight f h o t = holds (all-reads (λ o. test (f o)) eight) h o (known-in o t)
+
+-- ---- the numbers below n
+abbrev pub upTo : ℕ → List ℕ
+upTo zero = []
+upTo (suc n) = n ∷ upTo n
+
+pub in-upTo : {k : ℕ} (n : ℕ) → k < n → k ∈ upTo n
+in-upTo zero h = absurd (let z : ⊥ = omega arith in z)
+in-upTo {k} (suc n) h = ⊎-elim (λ (e : k ≡ n). ∈-head e) (λ (l : k < n). ∈-tail (in-upTo n l)) (eq-or-lt-of-le (le-of-suc-le-suc h))
 
 -- ---- the search for a number
-pub step : (o : RotMirror) (n : ℕ) → n < 8 → seek o n (drop n eight) ≡ cond (sameOf o (eighth n)) (At n) (seek o (n + 1) (drop (n + 1) eight))
+step : (o : RotMirror) (n : ℕ) → n < 8 → seek o n (drop n eight) ≡ cond (sameOf o (eighth n)) (At n) (seek o (n + 1) (drop (n + 1) eight))
 step o n h = rw (drop-cons eight n zeros h, add-one)
 
 pub turn-of : (n : ℕ) → n < 8 → numberedOf n .turn ≡ eighth n
@@ -92,14 +118,15 @@ small-known o t =
     ((one, nil, nil, one), ((nil, minus, one, nil), ((minus, nil, nil, minus), ((nil, one, minus, nil), ((minus, nil, nil, one), ((nil, minus, minus, nil), ((one, nil, nil, minus), ((nil, one, one, nil), tt))))))))
     o t
 
-pub smalls : (o : RotMirror) (r : Bool) → r ≡ known o → r ≡ true → Smalls o
-smalls o r e t = small-known o (subst T (sym t ∙ e) tt)
+-- where the code has found that o is known, or not
+module _ (o : RotMirror) {r : Bool} (e : r ≡ known o) where
+  pub smalls : r ≡ true → Smalls o
+  smalls t = small-known o (subst T (sym t ∙ e) tt)
 
--- a turn of one of the eight, and of any other
-pub turned : (f : RotMirror → RotMirror) (o : RotMirror) (r : Bool) → r ≡ known o → r ≡ true → {p : RotMirror} → p ≡ f o → done p ≡ turnedBy f o
-unfolding turnedBy
-turned f o r e t q = ap done q ∙ sym (λ i. cond ((sym e ∙ t) i) (done (f o)) refused)
+  pub turned : (f : RotMirror → RotMirror) → r ≡ true → {p : RotMirror} → p ≡ f o → done p ≡ turnedBy f o
+  unfolding turnedBy
+  turned f t q = ap done q ∙ sym (λ i. cond ((sym e ∙ t) i) (done (f o)) refused)
 
-pub unturned : (f : RotMirror → RotMirror) (o : RotMirror) (r : Bool) → r ≡ known o → r ≡ false → refused ≡ turnedBy f o
-unfolding turnedBy
-unturned f o r e t = sym (λ i. cond ((sym e ∙ t) i) (done (f o)) refused)
+  pub unturned : (f : RotMirror → RotMirror) → r ≡ false → refused ≡ turnedBy f o
+  unfolding turnedBy
+  unturned f t = sym (λ i. cond ((sym e ∙ t) i) (done (f o)) refused)

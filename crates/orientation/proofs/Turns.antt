@@ -1,21 +1,20 @@
--- The laws of the eight orientations: the numbers and the eight are one to one; each turn takes the eight to the eight, by a table; four right turns, a left and a right turn, and two mirrors change nothing.
-use mathlib.Core.Path.{_≡_, refl, sym, ap, _∙_, subst}
-use Prim.Native.Nat.{ℕ, zero, suc, _<_}
-use native.Mathlib.Omega.{arith}
-use mathlib.Core.List.{List}
+-- The laws of the eight orientations: the numbers and the eight are one to one; each turn takes the eight to the eight, by a table; four right
+-- turns, a left and a right turn, and two mirrors change nothing.
+use mathlib.Core.Path.{_≡_, refl, sym, ap, _∙_}
+use Prim.Native.Nat.{ℕ, _<_}
 use mathlib.Core.Bool.{true, cond}
+use mathlib.Core.List.{List}
 use lib.Dec.{T, ltb, ltb→lt}
-use mathlib.Core.Logic.{⊎-elim}
-use native.Mathlib.Nat.{eq-or-lt-of-le, le-of-suc-le-suc}
 use lib.IntN.{negℤ-negℤ}
 use lib.ListN.{getD}
-use Rattle.orientation.specs.Orientations.{turn, sameOf, numberOf, known, eighth, done, refused, turnedBy, rightOf, leftOf, mirrorOf, rights, lefts, mirrors}
+use Rattle.lists.specs.Lists.{all}
+use Rattle.lists.proofs.Tests.{agree}
+use Rattle.orientation.specs.Orientations.{turn, sameOf, numberOf, numberReply, isAt, known, eighth, done, refused, turnedBy, rightOf, leftOf, mirrorOf, rights, lefts, mirrors}
 use Rattle.orientation.specs.declared.RotMirror.{RotMirror}
 use Rattle.orientation.specs.declared.Number.{Number}
 use Rattle.orientation.specs.declared.Number.the-variants.{At, Unknown}
 use Rattle.orientation.specs.declared.Turned.{Turned}
-use Rattle.lists.proofs.Tests.{agree}
-use Rattle.orientation.proofs.Eight.{of-eight}
+use Rattle.orientation.proofs.Eight.{Each, each, of-eight, test-eight, upTo, in-upTo}
 
 -- ---- on any four numbers
 pub left-right : (o : RotMirror) → leftOf (rightOf o) ≡ o
@@ -30,71 +29,69 @@ four-rights o = λ i. turn (negℤ-negℤ (o .0) i) (negℤ-negℤ (o .1) i) (ne
 pub two-mirrors : (o : RotMirror) → mirrorOf (mirrorOf o) ≡ o
 two-mirrors o = λ i. turn (negℤ-negℤ (o .0) i) (negℤ-negℤ (o .1) i) (o .2) (o .3)
 
--- ---- the numbers
--- P holds of each number below n
-abbrev Below : (ℕ → Type 0) → ℕ → Type 0
-Below P zero = Unit {0}
-Below P (suc n) = P n × Below P n
-
-below : (P : ℕ → Type 0) (n : ℕ) → Below P n → (k : ℕ) → k < n → P k
-below P zero b k h = absurd (let z : ⊥ = omega arith in z)
-below P (suc n) b k h = ⊎-elim (λ e. subst P (sym e) (b .0)) (λ l. below P n (b .1) k l) (eq-or-lt-of-le (le-of-suc-le-suc h))
+-- ---- the numbers 0 to 7 and the eight are one to one
+below-8 : (P : ℕ → Type 0) → Each P (upTo 8) → (n : ℕ) → n < 8 → P n
+below-8 P h n l = each P (in-upTo 8 l) h
 
 pub number-eighth : (n : ℕ) → n < 8 → numberOf (eighth n) ≡ At n
 unfolding numberOf sameOf
-number-eighth n h = below (λ (n : ℕ). numberOf (eighth n) ≡ At n) 8 (refl, (refl, (refl, (refl, (refl, (refl, (refl, (refl, tt)))))))) n h
+number-eighth = below-8 (λ (n : ℕ). numberOf (eighth n) ≡ At n) (refl, (refl, (refl, (refl, (refl, (refl, (refl, (refl, tt))))))))
+
+-- the reply tells whether there is a number
+pub number-reply : (n : Number) → numberReply n ≡ cond (isAt n) 0 4
+number-reply (At n) = refl
+number-reply Unknown = refl
 
 -- the number that `At` holds
 abbrev pub told : Number → ℕ
 told (At n) = n
 told Unknown = 8
 
-abbrev Back : RotMirror → Type 0
-Back o = (eighth (told (numberOf o)) ≡ o) × (told (numberOf o) < 8)
+pub record Back (o : RotMirror) : Type 0 where
+  pub number : told (numberOf o) < 8
+  pub same : eighth (told (numberOf o)) ≡ o
 
 pub eighth-number : (o : RotMirror) → T (known o) → Back o
-unfolding numberOf sameOf
-eighth-number o t =
-    let at : (n : ℕ) → T (ltb n 8) → n < 8 = λ n u. ltb→lt n 8 u in
-    of-eight Back ((refl, at 0 tt), ((refl, at 1 tt), ((refl, at 2 tt), ((refl, at 3 tt), ((refl, at 4 tt), ((refl, at 5 tt), ((refl, at 6 tt), ((refl, at 7 tt), tt)))))))) o t
+unfolding numberOf sameOf all
+eighth-number o t = record {
+  number = ltb→lt (told (numberOf o)) 8 (test-eight (λ (o : RotMirror). ltb (told (numberOf o)) 8) tt o t);
+  same = of-eight (λ (o : RotMirror). eighth (told (numberOf o)) ≡ o) (refl, (refl, (refl, (refl, (refl, (refl, (refl, (refl, tt)))))))) o t;
+}
 
--- ---- each turn takes the eight to the eight, one to one: it has a number again, and left-right, right-left and two-mirrors undo it
-abbrev Stays : (RotMirror → RotMirror) → RotMirror → Type 0
-Stays f o = T (known (f o))
-
+-- ---- each turn takes the eight to the eight; left-right, right-left and two-mirrors undo it, so it is one to one
 pub right-known : (o : RotMirror) → T (known o) → T (known (rightOf o))
-unfolding numberOf sameOf
-right-known o t = of-eight (Stays rightOf) (tt, (tt, (tt, (tt, (tt, (tt, (tt, (tt, tt)))))))) o t
+unfolding numberOf sameOf all
+right-known = test-eight (λ (o : RotMirror). known (rightOf o)) tt
 
 pub left-known : (o : RotMirror) → T (known o) → T (known (leftOf o))
-unfolding numberOf sameOf
-left-known o t = of-eight (Stays leftOf) (tt, (tt, (tt, (tt, (tt, (tt, (tt, (tt, tt)))))))) o t
+unfolding numberOf sameOf all
+left-known = test-eight (λ (o : RotMirror). known (leftOf o)) tt
 
 pub mirror-known : (o : RotMirror) → T (known o) → T (known (mirrorOf o))
-unfolding numberOf sameOf
-mirror-known o t = of-eight (Stays mirrorOf) (tt, (tt, (tt, (tt, (tt, (tt, (tt, (tt, tt)))))))) o t
+unfolding numberOf sameOf all
+mirror-known = test-eight (λ (o : RotMirror). known (mirrorOf o)) tt
 
 -- ---- the turns as tables of numbers
-abbrev Acts : (RotMirror → RotMirror) → List ℕ → ℕ → Type 0
+abbrev pub Acts : (RotMirror → RotMirror) → List ℕ → ℕ → Type 0
 Acts f t n = numberOf (f (eighth n)) ≡ At (getD t n 8)
 
 pub right-acts : (n : ℕ) → n < 8 → Acts rightOf rights n
 unfolding numberOf sameOf
-right-acts n h = below (Acts rightOf rights) 8 (refl, (refl, (refl, (refl, (refl, (refl, (refl, (refl, tt)))))))) n h
+right-acts = below-8 (Acts rightOf rights) (refl, (refl, (refl, (refl, (refl, (refl, (refl, (refl, tt))))))))
 
 pub left-acts : (n : ℕ) → n < 8 → Acts leftOf lefts n
 unfolding numberOf sameOf
-left-acts n h = below (Acts leftOf lefts) 8 (refl, (refl, (refl, (refl, (refl, (refl, (refl, (refl, tt)))))))) n h
+left-acts = below-8 (Acts leftOf lefts) (refl, (refl, (refl, (refl, (refl, (refl, (refl, (refl, tt))))))))
 
 pub mirror-acts : (n : ℕ) → n < 8 → Acts mirrorOf mirrors n
 unfolding numberOf sameOf
-mirror-acts n h = below (Acts mirrorOf mirrors) 8 (refl, (refl, (refl, (refl, (refl, (refl, (refl, (refl, tt)))))))) n h
+mirror-acts = below-8 (Acts mirrorOf mirrors) (refl, (refl, (refl, (refl, (refl, (refl, (refl, (refl, tt))))))))
 
 -- ---- the calls: after a turn that is answered by 0, the turn back is answered by 0 and the first orientation
 pub is-known : (o : RotMirror) → T (known o) → known o ≡ true
 is-known o t = agree (known o) true (λ u. tt) (λ u. t)
 
-turn-known : (f : RotMirror → RotMirror) (o : RotMirror) → T (known o) → turnedBy f o ≡ done (f o)
+pub turn-known : (f : RotMirror → RotMirror) (o : RotMirror) → T (known o) → turnedBy f o ≡ done (f o)
 unfolding turnedBy
 turn-known f o t = λ i. cond (is-known o t i) (done (f o)) refused
 

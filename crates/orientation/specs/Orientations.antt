@@ -45,6 +45,11 @@ seek o n (p ∷ ps) = cond (sameOf o p) (At n) (seek o (suc n) ps)
 unfoldable pub numberOf : RotMirror → Number
 numberOf o = seek o 0 eight
 
+-- the numbered reply of each case: "4: .. not one of the eight orientations"
+abbrev pub numberReply : Number → ℕ
+numberReply (At n) = 0
+numberReply Unknown = 4
+
 abbrev pub isAt : Number → Bool
 isAt (At n) = true
 isAt Unknown = false

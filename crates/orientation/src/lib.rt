@@ -17,7 +17,25 @@ pub struct Turned {
     pub turn: RotMirror,
 }
 
-fn same(o: RotMirror, p: RotMirror) -> bool
+// The eight, in the order of their numbers.
+const EIGHT: [RotMirror; 8] = [
+    RotMirror(1, 0, 0, 1),
+    RotMirror(0, -1, 1, 0),
+    RotMirror(-1, 0, 0, -1),
+    RotMirror(0, 1, -1, 0),
+    RotMirror(-1, 0, 0, 1),
+    RotMirror(0, -1, -1, 0),
+    RotMirror(1, 0, 0, -1),
+    RotMirror(0, 1, 1, 0),
+];
+
+const REFUSED: Turned = Turned {
+    reply: 4,
+    turn: RotMirror(0, 0, 0, 0),
+};
+
+// Whether two are the same four numbers.
+pub fn same(o: RotMirror, p: RotMirror) -> bool
     ensures { λ r. ⌜ r ≡ sameOf o p ⌝ }
 {
     (o.0 == p.0) & ((o.1 == p.1) & ((o.2 == p.2) & (o.3 == p.3)))
@@ -27,44 +45,12 @@ fn same(o: RotMirror, p: RotMirror) -> bool
 pub fn numbered(n: u8) -> Turned
     ensures { λ r. ⌜ r ≡ numberedOf n ⌝ }
 {
-    match n {
-        0 => Turned {
-            reply: 0,
-            turn: RotMirror(1, 0, 0, 1),
-        },
-        1 => Turned {
-            reply: 0,
-            turn: RotMirror(0, -1, 1, 0),
-        },
-        2 => Turned {
-            reply: 0,
-            turn: RotMirror(-1, 0, 0, -1),
-        },
-        3 => Turned {
-            reply: 0,
-            turn: RotMirror(0, 1, -1, 0),
-        },
-        4 => Turned {
-            reply: 0,
-            turn: RotMirror(-1, 0, 0, 1),
-        },
-        5 => Turned {
-            reply: 0,
-            turn: RotMirror(0, -1, -1, 0),
-        },
-        6 => Turned {
-            reply: 0,
-            turn: RotMirror(1, 0, 0, -1),
-        },
-        7 => Turned {
-            reply: 0,
-            turn: RotMirror(0, 1, 1, 0),
-        },
-        _ => Turned {
-            reply: 4,
-            turn: RotMirror(0, 0, 0, 0),
-        },
+    if n < 8 {
+        let i = n as usize;
+        let turn = EIGHT[i];
+        return Turned { reply: 0, turn };
     }
+    REFUSED
 }
 
 // The number of o, 0 to 7: the first whose orientation is o.
@@ -103,10 +89,7 @@ pub fn rotate_r(o: RotMirror) -> Turned
             turn: RotMirror(-o.2, -o.3, o.0, o.1),
         }
     } else {
-        Turned {
-            reply: 4,
-            turn: RotMirror(0, 0, 0, 0),
-        }
+        REFUSED
     }
 }
 
@@ -120,10 +103,7 @@ pub fn rotate_l(o: RotMirror) -> Turned
             turn: RotMirror(o.2, o.3, -o.0, -o.1),
         }
     } else {
-        Turned {
-            reply: 4,
-            turn: RotMirror(0, 0, 0, 0),
-        }
+        REFUSED
     }
 }
 
@@ -137,9 +117,6 @@ pub fn mirror(o: RotMirror) -> Turned
             turn: RotMirror(-o.0, -o.1, o.2, o.3),
         }
     } else {
-        Turned {
-            reply: 4,
-            turn: RotMirror(0, 0, 0, 0),
-        }
+        REFUSED
     }
 }

@@ -1,14 +1,14 @@
 -- Pads come as blocks of three points, of which some count; block behind block, a table lists the pads of all components.
-use Prim.Native.Nat.{ℕ, _+_, _≤_}
+use Prim.Native.Nat.{ℕ, zero, suc, _+_, _≤_}
 use native.Mathlib.Omega.{arith}
 use mathlib.Core.List.{List, [], _∷_, _++_}
 use mathlib.Core.Path.{_≡_, refl, sym, ap, subst, _∙_}
-use lib.ListN.{length, take, getD, set, replicate, length-append, length-set, length-take, length-replicate}
+use lib.ListN.{length, take, getD, set, replicate, length-append, length-set, length-take, length-replicate, length-map}
 use lib.Seq.{take-take, take-append-seam}
 use Rattle.lists.proofs.Tables.{three-of, take-three}
 use Rattle.symbol.specs.declared.Point.{Point}
 use Rattle.symbol.specs.declared.PadBlock.{PadBlock}
-use Rattle.symbol.specs.Symbols.{unused, padBlock}
+use Rattle.symbol.specs.Symbols.{unused, padBlock, padsAt, movedOf}
 use Rattle.sheet.specs.declared.Component.{Component}
 use Rattle.sheet.specs.Parts.{pads}
 use Rattle.sheet.proofs.Parts.{length-pads}
@@ -42,3 +42,23 @@ lists-block {ps} {qs} {t} {b} z h k r =
           ∙ ap (λ l. pointRows t ++ take (b .count) l) (sym (three-of (b .points) z (k .size)))
           ∙ (λ i. h .points-are i ++ k .points-are i);
     }
+
+-- a contact has three pads, every other component one
+pub other-kinds : (k : ℕ) → (k ≡ 1 → ⊥) → 1 ≡ length (padsAt k)
+other-kinds zero n = refl
+other-kinds (suc zero) n = absurd (n refl)
+other-kinds (suc (suc k)) n = refl
+
+length-pads-of : (c : Component) → length (pads c) ≡ length (padsAt (c .kind))
+unfolding pads
+length-pads-of c = length-map (padsAt (c .kind)) (movedOf (c .«rot_mirror») (c .x) (c .y))
+
+-- n is the number of the points
+pub record Many (ps : List Point) (n : ℕ) : Type 0 where
+  pub count-is : n ≡ length ps
+
+pub many-none : Many [] 0
+many-none = record { count-is = refl }
+
+pub many-more : {ps : List Point} {n m : ℕ} (c : Component) → Many ps n → m ≡ length (padsAt (c .kind)) → Many (ps ++ pads c) (n + m)
+many-more {ps} c h e = record { count-is = omega (arith, h .count-is, length-append ps (pads c), length-pads-of c) }

@@ -1,4 +1,8 @@
 // The pads of one component, and of all.
+ghost use mathlib.Core.Path.{_≡_};
+ghost use Prim.Native.Nat.{_≤_};
+ghost use lib.ListN.{length};
+ghost use Rattle.symbol.specs.Symbols.{padsAt};
 ghost use Rattle.sheet.specs.Parts;
 ghost use Rattle.sheet.specs.Drawings.{componentRows};
 ghost use Rattle.parts.specs.Tables.{PartsFit, Block, Listed};
@@ -41,4 +45,27 @@ pub fn all_pads(cs: Components) -> Points
         i += 1;
     }
     out
+}
+
+// How many pads a component of the kind has.
+fn pads_of_kind(kind: u8) -> usize
+    ensures { λ r. ⌜ (r ≡ length (padsAt kind)) × (r ≤ 3) ⌝ }
+{
+    if kind == 1 { 3 } else { 1 }
+}
+
+// How many pads the components have.
+pub fn count_pads(cs: Components) -> usize
+    requires { ⌜ cs .count ≤ 128 ⌝ }
+    ensures { λ r. ⌜ r ≡ length (Parts.padsOf (componentRows cs)) ⌝ }
+{
+    let n = cs.count;
+    let mut sum = 0;
+    let mut i = 0;
+    while i < n {
+        let c = cs.rows[i];
+        sum += pads_of_kind(c.kind);
+        i += 1;
+    }
+    sum
 }

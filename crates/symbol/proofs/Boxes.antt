@@ -3,72 +3,33 @@ use mathlib.Core.Path.{_≡_, sym, _∙_}
 use Prim.Native.Nat.{ℕ, zero, suc, _+_, _-_, _≤_, min, max}
 use native.Mathlib.Omega.{arith}
 use mathlib.Core.Bool.{Bool, _&&_, _||_, cond}
-use lib.Dec.{T, leb, leb→le, le→leb}
+use mathlib.Core.Logic.{⊎-elim}
+use lib.Dec.{T, leb→le}
 use lib.IntN.{ℤ, pos, negsuc, _+ℤ_}
 use lib.Signed.{leZ}
+use Rattle.lists.specs.Lists.{all}
+use Rattle.lists.proofs.Tests.{Reads, reads-as, and-reads, or-reads, test, holds, passes, same-test, leb-reads}
 use Rattle.orientation.specs.Orientations.{known, mirrorOf}
-use Rattle.edge.specs.Coordinates.{coordOf, biased, insideOf}
-use Rattle.symbol.specs.Symbols.{applied, lowAt, highAt, boxOf, boundsAt, touchesOf, within, boundsFor, refusalOf, aabbOf}
 use Rattle.orientation.specs.declared.RotMirror.{RotMirror}
+use Rattle.orientation.proofs.Eight.{of-eight, test-eight}
+use Rattle.orientation.proofs.Turns.{is-known, mirror-known}
+use Rattle.edge.specs.Coordinates.{coordOf, biased, insideOf}
+use Rattle.edge.proofs.Whole.{added, pos-sub, neg-sub-suc}
+use Rattle.symbol.specs.Symbols.{applied, lowAt, highAt, boxOf, boundsAt, touchesOf, within, boundsFor, refusalOf, aabbOf}
 use Rattle.symbol.specs.declared.Point.{Point}
 use Rattle.symbol.specs.declared.Bounds.{Bounds}
-use Rattle.lists.proofs.Tests.{agree, both-l, both-r, both-T}
-use Rattle.orientation.proofs.Turns.{is-known, mirror-known}
-use Rattle.orientation.proofs.Eight.{of-eight}
-use Rattle.edge.proofs.Whole.{added, pos-sub, neg-sub-suc}
-use Rattle.symbol.proofs.Rows.{or-elim}
 
--- a b c d, read off a test of four
-module _ (a b c d : Bool) where
-  pub four : T a → T b → T c → T d → T (a && (b && (c && d)))
-  four p q r s = both-T a (b && (c && d)) p (both-T b (c && d) q (both-T c d r s))
-
-  module _ (t : T (a && (b && (c && d)))) where
-    pub first : T a
-    first = both-l a (b && (c && d)) t
-
-    rest : T (b && (c && d))
-    rest = both-r a (b && (c && d)) t
-
-    pub second : T b
-    second = both-l b (c && d) rest
-
-    pub third : T c
-    third = both-l c d (both-r b (c && d) rest)
-
-    pub fourth : T d
-    fourth = both-r c d (both-r b (c && d) rest)
-
--- ---- touching
+-- ---- the tests, read
 pub record Shares (a b : Bounds) : Type 0 where
   pub x-left : a .low .x ≤ b .high .x
   pub x-right : b .low .x ≤ a .high .x
   pub y-top : a .low .y ≤ b .high .y
   pub y-bottom : b .low .y ≤ a .high .y
 
-pub touching : (a b : Bounds) → T (touchesOf a b) → Shares a b
-touching a b t =
-    let p = leb (a .low .x) (b .high .x) in
-    let q = leb (b .low .x) (a .high .x) in
-    let r = leb (a .low .y) (b .high .y) in
-    let s = leb (b .low .y) (a .high .y) in
-    record {
-      x-left = leb→le (a .low .x) (b .high .x) (first p q r s t);
-      x-right = leb→le (b .low .x) (a .high .x) (second p q r s t);
-      y-top = leb→le (a .low .y) (b .high .y) (third p q r s t);
-      y-bottom = leb→le (b .low .y) (a .high .y) (fourth p q r s t);
-    }
-
-pub touched : (a b : Bounds) → Shares a b → T (touchesOf a b)
-touched a b h =
-    four (leb (a .low .x) (b .high .x)) (leb (b .low .x) (a .high .x)) (leb (a .low .y) (b .high .y)) (leb (b .low .y) (a .high .y))
-    (le→leb (a .low .x) (b .high .x) (h .x-left)) (le→leb (b .low .x) (a .high .x) (h .x-right)) (le→leb (a .low .y) (b .high .y) (h .y-top)) (le→leb (b .low .y) (a .high .y) (h .y-bottom))
-
-turn-round : (a b : Bounds) → T (touchesOf a b) → T (touchesOf b a)
-turn-round a b t = let h = touching a b t in touched b a (record { x-left = h .x-right; x-right = h .x-left; y-top = h .y-bottom; y-bottom = h .y-top })
-
-pub symmetric : (a b : Bounds) → touchesOf a b ≡ touchesOf b a
-symmetric a b = agree (touchesOf a b) (touchesOf b a) (turn-round a b) (turn-round b a)
+pub shares-reads : (a b : Bounds) → Reads (Shares a b) (touchesOf a b)
+shares-reads a b =
+    reads-as (λ t. record { x-left = t .0; x-right = t .1 .0; y-top = t .1 .1 .0; y-bottom = t .1 .1 .1 }, λ h. (h .x-left, (h .x-right, (h .y-top, h .y-bottom))))
+    (and-reads (leb-reads (a .low .x) (b .high .x)) (and-reads (leb-reads (b .low .x) (a .high .x)) (and-reads (leb-reads (a .low .y) (b .high .y)) (leb-reads (b .low .y) (a .high .y)))))
 
 -- p is in b
 pub record In (p : Point) (b : Bounds) : Type 0 where
@@ -77,42 +38,44 @@ pub record In (p : Point) (b : Bounds) : Type 0 where
   pub y-low : b .low .y ≤ p .y
   pub y-high : p .y ≤ b .high .y
 
-pub inside : (p : Point) (b : Bounds) → T (within p b) → In p b
-inside p b t =
-    let u = leb (b .low .x) (p .x) in
-    let v = leb (p .x) (b .high .x) in
-    let w = leb (b .low .y) (p .y) in
-    let z = leb (p .y) (b .high .y) in
-    record {
-      x-low = leb→le (b .low .x) (p .x) (first u v w z t);
-      x-high = leb→le (p .x) (b .high .x) (second u v w z t);
-      y-low = leb→le (b .low .y) (p .y) (third u v w z t);
-      y-high = leb→le (p .y) (b .high .y) (fourth u v w z t);
-    }
+pub within-reads : (p : Point) (b : Bounds) → Reads (In p b) (within p b)
+within-reads p b =
+    reads-as (λ t. record { x-low = t .0; x-high = t .1 .0; y-low = t .1 .1 .0; y-high = t .1 .1 .1 }, λ h. (h .x-low, (h .x-high, (h .y-low, h .y-high))))
+    (and-reads (leb-reads (b .low .x) (p .x)) (and-reads (leb-reads (p .x) (b .high .x)) (and-reads (leb-reads (b .low .y) (p .y)) (leb-reads (p .y) (b .high .y)))))
 
-pub in-within : (p : Point) (b : Bounds) → In p b → T (within p b)
-in-within p b h =
-    four (leb (b .low .x) (p .x)) (leb (p .x) (b .high .x)) (leb (b .low .y) (p .y)) (leb (p .y) (b .high .y))
-    (le→leb (b .low .x) (p .x) (h .x-low)) (le→leb (p .x) (b .high .x) (h .x-high)) (le→leb (b .low .y) (p .y) (h .y-low)) (le→leb (p .y) (b .high .y) (h .y-high))
+-- ---- touching
+turned-round : {a b : Bounds} → Shares a b → Shares b a
+turned-round h = record { x-left = h .x-right; x-right = h .x-left; y-top = h .y-bottom; y-bottom = h .y-top }
 
--- two boxes with a common point touch
-pub common-touches : (a b : Bounds) (p : Point) → T (within p a) → T (within p b) → T (touchesOf a b)
-common-touches a b p s t =
-    let h = inside p a s in
-    let k = inside p b t in
-    touched a b (record { x-left = omega arith; x-right = omega arith; y-top = omega arith; y-bottom = omega arith })
+pub symmetric : (a b : Bounds) → touchesOf a b ≡ touchesOf b a
+symmetric a b = same-test (shares-reads a b) (reads-as (turned-round, turned-round) (shares-reads b a))
 
 -- a box whose low corner is not above its high one
 pub record Box (b : Bounds) : Type 0 where
   pub wide : b .low .x ≤ b .high .x
   pub tall : b .low .y ≤ b .high .y
 
--- two boxes that touch have a common point
-pub touches-common : (a b : Bounds) → Box a → Box b → T (touchesOf a b) → (p : Point) × T (within p a) × T (within p b)
-touches-common a b f g t =
-    let h = touching a b t in
-    let p : Point = record { x = max (a .low .x) (b .low .x); y = max (a .low .y) (b .low .y) } in
-    (p, in-within p a (record { x-low = omega arith; x-high = omega arith; y-low = omega arith; y-high = omega arith }), in-within p b (record { x-low = omega arith; x-high = omega arith; y-low = omega arith; y-high = omega arith }))
+pub is-box : (p q : Point) → Box (boxOf p q)
+is-box p q = record { wide = omega arith; tall = omega arith }
+
+-- two boxes touch where they share a point
+pub touches-reads : (a b : Bounds) → Box a → Box b → Reads ((p : Point) × In p a × In p b) (touchesOf a b)
+touches-reads a b f g = reads-as (into, out) (shares-reads a b)
+  where
+    into : Shares a b → (p : Point) × In p a × In p b
+    into h =
+        let p : Point = record { x = max (a .low .x) (b .low .x); y = max (a .low .y) (b .low .y) } in
+        (p, record { x-low = omega arith; x-high = omega arith; y-low = omega arith; y-high = omega arith }, record { x-low = omega arith; x-high = omega arith; y-low = omega arith; y-high = omega arith })
+
+    out : (p : Point) × In p a × In p b → Shares a b
+    out t = let h = t .1 in let k = t .2 in record { x-left = omega arith; x-right = omega arith; y-top = omega arith; y-bottom = omega arith }
+
+-- so two boxes with a common point touch
+pub common-touches : (a b : Bounds) (p : Point) → T (within p a) → T (within p b) → T (touchesOf a b)
+common-touches a b p s t =
+    let h = holds (within-reads p a) s in
+    let k = holds (within-reads p b) t in
+    passes (shares-reads a b) (record { x-left = omega arith; x-right = omega arith; y-top = omega arith; y-bottom = omega arith })
 
 -- ---- a coordinate of a component's point, which lies z from the position's
 abbrev put : ℕ → ℤ → ℕ
@@ -136,30 +99,33 @@ put-above x (negsuc n) t = absurd t
 abbrev astride : ℤ → ℤ → Bool
 astride z w = (leZ z (pos 0) && leZ (pos 0) w) || (leZ w (pos 0) && leZ (pos 0) z)
 
-held : (x : ℕ) (z w : ℤ) → T (astride z w) → (min (put x z) (put x w) ≤ x) × (x ≤ max (put x z) (put x w))
-held x z w t =
-    or-elim ((min (put x z) (put x w) ≤ x) × (x ≤ max (put x z) (put x w))) (leZ z (pos 0) && leZ (pos 0) w) (leZ w (pos 0) && leZ (pos 0) z) t
-    (λ u. let h = put-below x z (both-l (leZ z (pos 0)) (leZ (pos 0) w) u) in let k = put-above x w (both-r (leZ z (pos 0)) (leZ (pos 0) w) u) in (omega arith, omega arith))
-    (λ u. let h = put-below x w (both-l (leZ w (pos 0)) (leZ (pos 0) z) u) in let k = put-above x z (both-r (leZ w (pos 0)) (leZ (pos 0) z) u) in (omega arith, omega arith))
+spans : (x : ℕ) (z w : ℤ) → T (astride z w) → (min (put x z) (put x w) ≤ x) × (x ≤ max (put x z) (put x w))
+spans x z w t = ⊎-elim (λ h. go z w h) (λ h. let r = go w z h in (omega arith, omega arith)) (holds (or-reads (both z w) (both w z)) t)
+  where
+    both : (z w : ℤ) → Reads (T (leZ z (pos 0)) × T (leZ (pos 0) w)) (leZ z (pos 0) && leZ (pos 0) w)
+    both z w = and-reads (test (leZ z (pos 0))) (test (leZ (pos 0) w))
 
-abbrev Astride : ℕ → RotMirror → Type 0
-Astride k o = T (astride (applied o (lowAt k) .dx) (applied o (highAt k) .dx)) × T (astride (applied o (lowAt k) .dy) (applied o (highAt k) .dy))
+    go : (z w : ℤ) → T (leZ z (pos 0)) × T (leZ (pos 0) w) → (min (put x z) (put x w) ≤ x) × (x ≤ max (put x z) (put x w))
+    go z w h = let l = put-below x z (h .0) in let k = put-above x w (h .1) in (omega arith, omega arith)
 
-all-astride : (k : ℕ) (o : RotMirror) → T (known o) → Astride k o
-all-astride zero o t = of-eight (Astride 0) ((tt, tt), ((tt, tt), ((tt, tt), ((tt, tt), ((tt, tt), ((tt, tt), ((tt, tt), ((tt, tt), tt)))))))) o t
-all-astride (suc zero) o t = of-eight (Astride 1) ((tt, tt), ((tt, tt), ((tt, tt), ((tt, tt), ((tt, tt), ((tt, tt), ((tt, tt), ((tt, tt), tt)))))))) o t
-all-astride (suc (suc k)) o t = of-eight (Astride 2) ((tt, tt), ((tt, tt), ((tt, tt), ((tt, tt), ((tt, tt), ((tt, tt), ((tt, tt), ((tt, tt), tt)))))))) o t
+-- the corners of a symbol lie on both sides of its position
+corners-astride : ℕ → RotMirror → Bool
+corners-astride k o = astride (applied o (lowAt k) .dx) (applied o (highAt k) .dx) && astride (applied o (lowAt k) .dy) (applied o (highAt k) .dy)
+
+all-astride : (k : ℕ) (o : RotMirror) → T (known o) → T (corners-astride k o)
+unfolding corners-astride all
+all-astride zero = test-eight (corners-astride 0) tt
+all-astride (suc zero) = test-eight (corners-astride 1) tt
+all-astride (suc (suc k)) = test-eight (corners-astride 2) tt
 
 -- ---- a position lies in its own box
 pub own-box : (k : ℕ) (o : RotMirror) (x y : ℕ) → T (known o) → T (within (record { x = x; y = y }) (boundsAt k o x y))
+unfolding corners-astride
 own-box k o x y t =
-    let a = all-astride k o t in
-    let h = held x (applied o (lowAt k) .dx) (applied o (highAt k) .dx) (a .0) in
-    let v = held y (applied o (lowAt k) .dy) (applied o (highAt k) .dy) (a .1) in
-    in-within (record { x = x; y = y }) (boundsAt k o x y) (record { x-low = h .0; x-high = h .1; y-low = v .0; y-high = v .1 })
-
-pub is-box : (p q : Point) → Box (boxOf p q)
-is-box p q = record { wide = omega arith; tall = omega arith }
+    let a = holds (and-reads (test (astride (applied o (lowAt k) .dx) (applied o (highAt k) .dx))) (test (astride (applied o (lowAt k) .dy) (applied o (highAt k) .dy)))) (all-astride k o t) in
+    let h = spans x (applied o (lowAt k) .dx) (applied o (highAt k) .dx) (a .0) in
+    let v = spans y (applied o (lowAt k) .dy) (applied o (highAt k) .dy) (a .1) in
+    passes (within-reads (record { x = x; y = y }) (boundsAt k o x y)) (record { x-low = h .0; x-high = h .1; y-low = v .0; y-high = v .1 })
 
 -- ---- a mirror leaves a contact's box
 swapped : (a b c d : ℕ) → boxOf (record { x = b; y = c }) (record { x = a; y = d }) ≡ boxOf (record { x = a; y = c }) (record { x = b; y = d })

@@ -1,7 +1,7 @@
 -- No number of a component's point is cut off: its coordinate is the sum of document 01, over the whole numbers. And every point lies in
 -- 50 to 11,950, so that none is a row of zeros, and each is a place for a wire's end.
 use mathlib.Core.Path.{_≡_, refl, subst}
-use Prim.Native.Nat.{ℕ, zero, suc, _≤_}
+use Prim.Native.Nat.{ℕ, zero, suc, _+_, _≤_}
 use native.Mathlib.Omega.{arith}
 use mathlib.Core.Bool.{Bool, _&&_}
 use mathlib.Core.List.{List·Memᴰ·head as ∈-head, Memᴰ·of-map as ∈-map}
@@ -17,17 +17,16 @@ use Rattle.edge.specs.Coordinates.{coordOf, biased}
 use Rattle.edge.proofs.Whole.{row-plus-left, row-minus-left, row-plus-right, row-minus-right, size-neg, size-added, added, pos-sub, neg-sub-suc}
 use Rattle.edge.proofs.Places.{back}
 use Rattle.symbol.specs.Symbols.{Offset, applied, movedOf, padsAt, padPoints, lowAt, highAt, boundsAt, Sound}
-use Rattle.symbol.specs.Steps.{row}
+use Rattle.symbol.specs.Steps.{Row, right, left, down, up}
 use Rattle.symbol.specs.declared.Point.{Point}
-use Rattle.symbol.proofs.Rows.{of-row, known-rows}
+use Rattle.symbol.proofs.Rows.{known-rows}
 
-size-row : (u v : ℤ) (k : ℕ) → natAbs u ≤ k → natAbs v ≤ k → (a b : ℤ) → T (row a b) → natAbs (a *ℤ u +ℤ b *ℤ v) ≤ k
-size-row u v k f g =
-    of-row (λ (a b : ℤ). natAbs (a *ℤ u +ℤ b *ℤ v) ≤ k)
-    (rw (row-plus-left u v) f)
-    (rw (row-minus-left u v, size-neg u) f)
-    (rw (row-plus-right u v) g)
-    (rw (row-minus-right u v, size-neg v) g)
+-- a row gives no greater number than those it is given
+size-row : (u v : ℤ) (k : ℕ) → natAbs u ≤ k → natAbs v ≤ k → {a b : ℤ} → Row a b → natAbs (a *ℤ u +ℤ b *ℤ v) ≤ k
+size-row u v k f g right = rw (row-plus-left u v) f
+size-row u v k f g left = rw (row-minus-left u v, size-neg u) f
+size-row u v k f g down = rw (row-plus-right u v) g
+size-row u v k f g up = rw (row-minus-right u v, size-neg v) g
 
 -- ---- the points of a symbol are at most 150 from the position in each coordinate
 abbrev pub near : Offset → Bool
@@ -52,10 +51,10 @@ module _ (o : RotMirror) (k : T (known o)) (q : Offset) (t : T (near q)) where
 
   -- and so they are turned
   turned-x : natAbs (applied o q .dx) ≤ 150
-  turned-x = size-row (q .dx) (q .dy) 150 in-x in-y (o .0) (o .1) (known-rows o k .0)
+  turned-x = size-row (q .dx) (q .dy) 150 in-x in-y (known-rows o k .0)
 
   turned-y : natAbs (applied o q .dy) ≤ 150
-  turned-y = size-row (q .dx) (q .dy) 150 in-x in-y (o .2) (o .3) (known-rows o k .1)
+  turned-y = size-row (q .dx) (q .dy) 150 in-x in-y (known-rows o k .1)
 
 -- ---- the sums of document 01
 pub record Exact (o : RotMirror) (x y : ℕ) (q : Offset) : Type 0 where
@@ -65,14 +64,21 @@ pub record Exact (o : RotMirror) (x y : ℕ) (q : Offset) : Type 0 where
 put-exact : (p : ℕ) (z : ℤ) → 200 ≤ p → p ≤ 11800 → natAbs z ≤ 150 → coordOf (biased (coordOf p +ℤ z)) ≡ coordOf p +ℤ z
 put-exact p z f g h = back (coordOf p +ℤ z) (size-added p z f g (omega arith))
 
--- ---- the range
+-- ---- a point of a component at (x, y) is at most 150 from it, and so lies in 50 to 11,950
+pub record Reached (x y : ℕ) (p : Point) : Type 0 where
+  pub in-x : (x ≤ p .x + 150) × (p .x ≤ x + 150)
+  pub in-y : (y ≤ p .y + 150) × (p .y ≤ y + 150)
+
 pub record Ranged (p : Point) : Type 0 where
   pub in-x : (50 ≤ p .x) × (p .x ≤ 11950)
   pub in-y : (50 ≤ p .y) × (p .y ≤ 11950)
 
-put-range : (p : ℕ) (z : ℤ) → 200 ≤ p → p ≤ 11800 → natAbs z ≤ 150 → (50 ≤ biased (coordOf p +ℤ z)) × (biased (coordOf p +ℤ z) ≤ 11950)
-put-range p (pos n) f g h = let e = added p n 0 (pos n) (pos-sub n) in (omega arith, omega arith)
-put-range p (negsuc n) f g h = let e = added p 0 (suc n) (negsuc n) (neg-sub-suc n) in (omega arith, omega arith)
+reached-ranged : {o : RotMirror} {x y : ℕ} {p : Point} → Sound o x y → Reached x y p → Ranged p
+reached-ranged s r = record { in-x = (omega arith, omega arith); in-y = (omega arith, omega arith) }
+
+put-reach : (p : ℕ) (z : ℤ) → 200 ≤ p → natAbs z ≤ 150 → (p ≤ biased (coordOf p +ℤ z) + 150) × (biased (coordOf p +ℤ z) ≤ p + 150)
+put-reach p (pos n) f h = let e = added p n 0 (pos n) (pos-sub n) in (omega arith, omega arith)
+put-reach p (negsuc n) f h = let e = added p 0 (suc n) (negsuc n) (neg-sub-suc n) in (omega arith, omega arith)
 
 module _ (o : RotMirror) (x y : ℕ) (s : Sound o x y) where
   pub exact : (q : Offset) → T (near q) → Exact o x y q
@@ -81,10 +87,10 @@ module _ (o : RotMirror) (x y : ℕ) (s : Sound o x y) where
     in-y = put-exact y (applied o q .dy) (s .top) (s .bottom) (turned-y o (s .turned) q t);
   }
 
-  ranged : (q : Offset) → T (near q) → Ranged (movedOf o x y q)
-  ranged q t = record {
-    in-x = put-range x (applied o q .dx) (s .left) (s .right) (turned-x o (s .turned) q t);
-    in-y = put-range y (applied o q .dy) (s .top) (s .bottom) (turned-y o (s .turned) q t);
+  reached : (q : Offset) → T (near q) → Reached x y (movedOf o x y q)
+  reached q t = record {
+    in-x = put-reach x (applied o q .dx) (s .left) (turned-x o (s .turned) q t);
+    in-y = put-reach y (applied o q .dy) (s .top) (turned-y o (s .turned) q t);
   }
 
   -- ---- the pads and the corners of every kind
@@ -95,14 +101,20 @@ module _ (o : RotMirror) (x y : ℕ) (s : Sound o x y) where
     pub corners-exact : Exact o x y (lowAt k) × Exact o x y (highAt k)
     corners-exact = (exact (lowAt k) tt, exact (highAt k) (high-near k))
 
+    pub pads-reached : (p : Point) → p ∈ padPoints k o x y → Reached x y p
+    pads-reached p m = let q = ∈-map (movedOf o x y) (padsAt k) m in subst (Reached x y) (q .2) (reached (q .0) (pads-near k (q .0) (q .1)))
+
     pub pads-ranged : (p : Point) → p ∈ padPoints k o x y → Ranged p
-    pads-ranged p m = let q = ∈-map (movedOf o x y) (padsAt k) m in subst Ranged (q .2) (ranged (q .0) (pads-near k (q .0) (q .1)))
+    pads-ranged p m = reached-ranged s (pads-reached p m)
+
+    pub box-reached : Reached x y (boundsAt k o x y .low) × Reached x y (boundsAt k o x y .high)
+    box-reached =
+        let l = reached (lowAt k) tt in
+        let h = reached (highAt k) (high-near k) in
+        (record { in-x = (omega arith, omega arith); in-y = (omega arith, omega arith) }, record { in-x = (omega arith, omega arith); in-y = (omega arith, omega arith) })
 
     pub box-ranged : Ranged (boundsAt k o x y .low) × Ranged (boundsAt k o x y .high)
-    box-ranged =
-        let l = ranged (lowAt k) tt in
-        let h = ranged (highAt k) (high-near k) in
-        (record { in-x = (omega arith, omega arith); in-y = (omega arith, omega arith) }, record { in-x = (omega arith, omega arith); in-y = (omega arith, omega arith) })
+    box-ranged = (reached-ranged s (box-reached .0), reached-ranged s (box-reached .1))
 
 pub pads-few : (k : ℕ) (o : RotMirror) (x y : ℕ) → length (padPoints k o x y) ≤ 3
 pads-few zero o x y = omega arith

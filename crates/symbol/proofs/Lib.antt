@@ -1,5 +1,5 @@
 pub mod Rows
+pub mod Tables
 pub mod Symbols
 pub mod Exact
 pub mod Boxes
-pub mod Answers

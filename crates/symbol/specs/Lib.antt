@@ -1,3 +1,2 @@
 pub mod Symbols
-pub mod Answers
 pub mod Steps

@@ -1,32 +1,15 @@
--- What the functions below the calls return: the tables as the code holds them, each number 200 more so that none is negative, and their map.
+-- What the functions below the calls ask and return. The code's tables hold each number of a symbol as 200 more, so that none is negative.
 use Prim.Native.Nat.{ℕ, zero, suc, _≤_}
-use mathlib.Core.Bool.{Bool, _&&_, _||_, cond}
 use mathlib.Core.List.{List, [], _∷_}
 use lib.IntN.{ℤ, pos, negsuc, subℕ}
-use Rattle.orientation.specs.Orientations.{eqZ}
-use Rattle.edge.specs.Coordinates.{coordOf, biased}
-use Rattle.symbol.specs.Symbols.{Offset, off, unused}
-use Rattle.symbol.specs.Answers.{positioned, origin}
+use lib.ListN.{getD}
+use Rattle.orientation.specs.declared.RotMirror.{RotMirror}
+use Rattle.symbol.specs.Symbols.{Offset, off, unused, Sound}
 use Rattle.symbol.specs.declared.Point.{Point}
-use Rattle.symbol.specs.declared.Position.{Position}
-use Rattle.symbol.specs.declared.PadBlock.{PadBlock}
-use Rattle.symbol.specs.declared.Bounds.{Bounds}
 
+-- a point of the tables, as an offset
 abbrev pub offsetOf : Point → Offset
 offsetOf q = off (subℕ (q .x) 200) (subℕ (q .y) 200)
-
-abbrev pub at : ℕ → ℕ → Point
-at x y = record { x = x; y = y }
-
-abbrev pub storedPads : ℕ → PadBlock
-storedPads zero = record { points = at 200 200 ∷ unused ∷ unused ∷ []; count = 1 }
-storedPads (suc zero) = record { points = at 200 100 ∷ at 150 300 ∷ at 250 300 ∷ []; count = 3 }
-storedPads (suc (suc n)) = record { points = at 200 100 ∷ unused ∷ unused ∷ []; count = 1 }
-
-abbrev pub storedBox : ℕ → Bounds
-storedBox zero = record { low = at 150 100; high = at 250 200 }
-storedBox (suc zero) = record { low = at 150 100; high = at 250 300 }
-storedBox (suc (suc n)) = record { low = at 150 100; high = at 250 350 }
 
 -- f of the first n
 abbrev pub mapFirst : (Point → Point) → ℕ → List Point → List Point
@@ -39,14 +22,23 @@ pub record Near (q : Point) : Type 0 where
   pub in-x : q .x ≤ 400
   pub in-y : q .y ≤ 400
 
+-- what mapping asks: at most three points, one of the eight and a position, and stored points
+pub record Mapping (points : List Point) (count : ℕ) (o : RotMirror) (x y : ℕ) : Type 0 where
+  pub few : count ≤ 3
+  pub sound : Sound o x y
+  pub near : (k : ℕ) → Near (getD points k unused)
+
 -- a row of an orientation: one of the two numbers is 0 and the other is 1 or -1
-unfoldable pub row : ℤ → ℤ → Bool
-row a b = (eqZ a (pos 0) && (eqZ b (pos 1) || eqZ b (negsuc 0))) || ((eqZ a (pos 1) || eqZ a (negsuc 0)) && eqZ b (pos 0))
+pub data Row : ℤ → ℤ → Type 0 where
+  right : Row (pos 1) (pos 0)
+  left : Row (negsuc 0) (pos 0)
+  down : Row (pos 0) (pos 1)
+  up : Row (pos 0) (negsuc 0)
 
--- a component's coordinate as rows hold it, or 0, which is no position
-unfoldable pub heldOf : ℤ → ℕ
-heldOf z = cond (positioned z) (biased z) 0
-
--- the coordinates of a point that is used, else zeros
-abbrev pub shownOf : Point → Bool → Position
-shownOf p used = cond used (record { x = coordOf (p .x); y = coordOf (p .y) }) origin
+-- what a coordinate of a symbol's point asks: a row of an orientation, a stored point, and a position
+pub record Along (a b : ℤ) (dx dy p : ℕ) : Type 0 where
+  pub of-row : Row a b
+  pub near-x : dx ≤ 400
+  pub near-y : dy ≤ 400
+  pub low : 200 ≤ p
+  pub high : p ≤ 11800

@@ -25,6 +25,8 @@ off x y = record { dx = x; dy = y }
 abbrev pub minus : ℕ → ℤ
 minus n = negℤ (pos n)
 
+-- "Kind: 0 Power, 1 Contact, 2 Coil." A greater number is refused, so what stands here for it is never used.
+
 -- "Pads: Power V+ (0,0); Contact C (0,−100), A (−50,100), B (50,100); Coil N (0,−100)."
 abbrev pub padsAt : ℕ → List Offset
 padsAt zero = off (pos 0) (pos 0) ∷ []
@@ -52,7 +54,7 @@ applied o q = off (o .0 *ℤ q .dx +ℤ o .1 *ℤ q .dy) (o .2 *ℤ q .dx +ℤ o
 abbrev pub movedOf : RotMirror → ℕ → ℕ → Offset → Point
 movedOf o x y q = record { x = biased (coordOf x +ℤ applied o q .dx); y = biased (coordOf y +ℤ applied o q .dy) }
 
--- a row of zeros
+-- a row of zeros, which is no point
 abbrev pub unused : Point
 unused = record { x = 0; y = 0 }
 
@@ -96,7 +98,7 @@ padsOf kind o x y = padsFor (refusalOf kind o x y) (padBlock kind o x y)
 unfoldable pub aabbOf : ℕ → RotMirror → ℕ → ℕ → BoundsReply
 aabbOf kind o x y = boundsFor (refusalOf kind o x y) (boundsAt kind o x y)
 
--- ---- boxes that share a point, edges counted
+-- ---- "no two component boxes share a point, edges counted"
 abbrev pub touchesOf : Bounds → Bounds → Bool
 touchesOf a b = leb (a .low .x) (b .high .x) && (leb (b .low .x) (a .high .x) && (leb (a .low .y) (b .high .y) && leb (b .low .y) (a .high .y)))
 

@@ -1,14 +1,10 @@
-// The symbols: pads and boxes of components, turned and moved, in the numbers that rows hold and by their coordinates.
+// The symbols: pads and boxes of components, turned and moved, in the numbers that rows hold.
 ghost use mathlib.Core.Path.{_≡_};
-ghost use Prim.Native.Nat.{ℕ, min, max, _≤_};
-ghost use lib.Dec.{T};
+ghost use Prim.Native.Nat.{min, max};
 ghost use lib.IntN.{subℕ, _+ℤ_, _*ℤ_};
-ghost use lib.ListN.{getD};
 ghost use Rattle.edge.specs.Coordinates.{coordOf, biased};
-ghost use Rattle.symbol.specs.Symbols.{Sound, Placeable, canTurn, movedOf, unused, padBlock, boxOf, boundsAt, refusalOf, padsOf, aabbOf, touchesOf};
-ghost use Rattle.symbol.specs.Answers.{componentPadsOf, componentBoxOf};
-ghost use Rattle.symbol.specs.Steps.{offsetOf, storedPads, storedBox, mapFirst, Near, row, heldOf, shownOf};
-use edge::Placed;
+ghost use Rattle.symbol.specs.Symbols.{Sound, Placeable, canTurn, movedOf, padBlock, boxOf, boundsAt, refusalOf, padsOf, aabbOf, touchesOf};
+ghost use Rattle.symbol.specs.Steps.{offsetOf, mapFirst, Near, Along, Mapping};
 use orientation::RotMirror;
 
 // A point as rows hold it: each coordinate and 6,000 more. A row of zeros is no point.
@@ -41,6 +37,44 @@ pub struct BoundsReply {
     pub bounds: Bounds,
 }
 
+const UNUSED: Point = Point { x: 0, y: 0 };
+
+// The pads of the kinds, each number 200 more so that none is negative.
+const PADS: [PadBlock; 3] = [
+    PadBlock {
+        points: [Point { x: 200, y: 200 }, UNUSED, UNUSED],
+        count: 1,
+    },
+    PadBlock {
+        points: [
+            Point { x: 200, y: 100 },
+            Point { x: 150, y: 300 },
+            Point { x: 250, y: 300 },
+        ],
+        count: 3,
+    },
+    PadBlock {
+        points: [Point { x: 200, y: 100 }, UNUSED, UNUSED],
+        count: 1,
+    },
+];
+
+// The boxes of the kinds, each number 200 more.
+const BOXES: [Bounds; 3] = [
+    Bounds {
+        low: Point { x: 150, y: 100 },
+        high: Point { x: 250, y: 200 },
+    },
+    Bounds {
+        low: Point { x: 150, y: 100 },
+        high: Point { x: 250, y: 300 },
+    },
+    Bounds {
+        low: Point { x: 150, y: 100 },
+        high: Point { x: 250, y: 350 },
+    },
+];
+
 // Whether a component of this kind turns or mirrors in place: only contacts do.
 pub fn can_turn(kind: u8) -> bool
     ensures { λ r. ⌜ r ≡ canTurn kind ⌝ }
@@ -50,7 +84,7 @@ pub fn can_turn(kind: u8) -> bool
 
 // One coordinate of a symbol's point, a * dx + b * dy from the position p, where dx and dy are given as 200 more.
 fn along(a: i8, b: i8, dx: u16, dy: u16, p: u16) -> u16
-    requires { ⌜ T (row a b) × ((dx ≤ 400) × ((dy ≤ 400) × ((200 ≤ p) × (p ≤ 11800)))) ⌝ }
+    requires { ⌜ Along a b dx dy p ⌝ }
     ensures { λ r. ⌜ r ≡ biased (coordOf p +ℤ (a *ℤ subℕ dx 200 +ℤ b *ℤ subℕ dy 200)) ⌝ }
 {
     if a == 1 {
@@ -79,10 +113,7 @@ fn moved(o: RotMirror, q: Point, x: u16, y: u16) -> Point
 fn refusal(kind: u8, o: RotMirror, x: u16, y: u16) -> u8
     ensures { λ r. ⌜ r ≡ refusalOf kind o x y ⌝ }
 {
-    if 2 < kind {
-        return 4;
-    }
-    if orientation::is_known(o) {
+    if (kind <= 2) & orientation::is_known(o) {
         if edge::is_position(x) & edge::is_position(y) {
             0
         } else {
@@ -93,65 +124,15 @@ fn refusal(kind: u8, o: RotMirror, x: u16, y: u16) -> u8
     }
 }
 
-// The pads of a kind, each number 200 more.
-fn symbol_pads(kind: u8) -> PadBlock
-    ensures { λ r. ⌜ r ≡ storedPads kind ⌝ }
-{
-    let unused = Point { x: 0, y: 0 };
-    if kind == 0 {
-        let v = Point { x: 200, y: 200 };
-        return PadBlock {
-            points: [v, unused, unused],
-            count: 1,
-        };
-    }
-    let c = Point { x: 200, y: 100 };
-    if kind == 1 {
-        let a = Point { x: 150, y: 300 };
-        let b = Point { x: 250, y: 300 };
-        return PadBlock {
-            points: [c, a, b],
-            count: 3,
-        };
-    }
-    PadBlock {
-        points: [c, unused, unused],
-        count: 1,
-    }
-}
-
-// The box of a kind, each number 200 more.
-fn symbol_box(kind: u8) -> Bounds
-    ensures { λ r. ⌜ r ≡ storedBox kind ⌝ }
-{
-    let low = Point { x: 150, y: 100 };
-    if kind == 0 {
-        return Bounds {
-            low,
-            high: Point { x: 250, y: 200 },
-        };
-    }
-    if kind == 1 {
-        return Bounds {
-            low,
-            high: Point { x: 250, y: 300 },
-        };
-    }
-    Bounds {
-        low,
-        high: Point { x: 250, y: 350 },
-    }
-}
-
 // The first count points, mapped through orientation and position; those behind stay.
 fn mapped(points: [Point; 3], count: usize, o: RotMirror, x: u16, y: u16) -> [Point; 3]
-    requires { ⌜ (count ≤ 3) × (Sound o x y × ((k : ℕ) → Near (getD points k unused))) ⌝ }
+    requires { ⌜ Mapping points count o x y ⌝ }
     ensures { λ r. ⌜ r ≡ mapFirst (λ q. movedOf o x y (offsetOf q)) count points ⌝ }
 {
     let mut out = points;
     let mut i = 0;
     while i < count {
-        let q = out[i];
+        let q = points[i];
         out[i] = moved(o, q, x, y);
         i += 1;
     }
@@ -163,7 +144,8 @@ pub fn pads_at(kind: u8, o: RotMirror, x: u16, y: u16) -> PadBlock
     requires { ⌜ Placeable kind o x y ⌝ }
     ensures { λ r. ⌜ r ≡ padBlock kind o x y ⌝ }
 {
-    let p = symbol_pads(kind);
+    let k = kind as usize;
+    let p = PADS[k];
     let points = p.points;
     let count = p.count;
     PadBlock {
@@ -178,9 +160,8 @@ pub fn pads(kind: u8, o: RotMirror, x: u16, y: u16) -> PadsReply
 {
     let reply = refusal(kind, o, x, y);
     if reply != 0 {
-        let unused = Point { x: 0, y: 0 };
         let none = PadBlock {
-            points: [unused, unused, unused],
+            points: [UNUSED, UNUSED, UNUSED],
             count: 0,
         };
         return PadsReply { reply, pads: none };
@@ -223,7 +204,8 @@ pub fn bounds_at(kind: u8, o: RotMirror, x: u16, y: u16) -> Bounds
     requires { ⌜ Placeable kind o x y ⌝ }
     ensures { λ r. ⌜ r ≡ boundsAt kind o x y ⌝ }
 {
-    let b = symbol_box(kind);
+    let k = kind as usize;
+    let b = BOXES[k];
     let low = b.low;
     let high = b.high;
     let p = moved(o, low, x, y);
@@ -237,10 +219,9 @@ pub fn aabb(kind: u8, o: RotMirror, x: u16, y: u16) -> BoundsReply
 {
     let reply = refusal(kind, o, x, y);
     if reply != 0 {
-        let unused = Point { x: 0, y: 0 };
         let none = Bounds {
-            low: unused,
-            high: unused,
+            low: UNUSED,
+            high: UNUSED,
         };
         return BoundsReply {
             reply,
@@ -259,81 +240,4 @@ pub fn touches(a: Bounds, b: Bounds) -> bool
 {
     (a.low.x <= b.high.x)
         & ((b.low.x <= a.high.x) & ((a.low.y <= b.high.y) & (b.low.y <= a.high.y)))
-}
-
-// A point by its coordinates.
-pub struct Position {
-    pub x: i32,
-    pub y: i32,
-}
-
-// The pads of a component by their coordinates: three points with their count, zeros behind it; a refusal has zeros for every number but the reply.
-pub struct PadsAnswer {
-    pub reply: u8,
-    pub points: [Position; 3],
-    pub count: usize,
-}
-
-// The box of a component by its coordinates; a refusal has zeros for every number but the reply.
-pub struct BoxAnswer {
-    pub reply: u8,
-    pub low: Position,
-    pub high: Position,
-}
-
-// A component's coordinate as rows hold it, or 0, which is no position.
-fn held(x: i32) -> u16
-    ensures { λ r. ⌜ r ≡ heldOf x ⌝ }
-{
-    match edge::place_component(x) {
-        Placed::Inside(n) => n,
-        Placed::Outside => 0,
-    }
-}
-
-// The coordinates of a point that is used, else zeros.
-fn shown(p: Point, used: bool) -> Position
-    ensures { λ r. ⌜ r ≡ shownOf p used ⌝ }
-{
-    if used {
-        Position {
-            x: edge::coordinate(p.x),
-            y: edge::coordinate(p.y),
-        }
-    } else {
-        Position { x: 0, y: 0 }
-    }
-}
-
-// The pads of a component at (x, y), by their coordinates.
-pub fn component_pads(kind: u8, o: RotMirror, x: i32, y: i32) -> PadsAnswer
-    ensures { λ r. ⌜ r ≡ componentPadsOf kind o x y ⌝ }
-{
-    let r = pads(kind, o, held(x), held(y));
-    let reply = r.reply;
-    let b = r.pads;
-    let ps = b.points;
-    let count = b.count;
-    let first = shown(ps[0], 0 < count);
-    let second = shown(ps[1], 1 < count);
-    let third = shown(ps[2], 2 < count);
-    PadsAnswer {
-        reply,
-        points: [first, second, third],
-        count,
-    }
-}
-
-// The box of a component at (x, y), by its coordinates.
-pub fn component_box(kind: u8, o: RotMirror, x: i32, y: i32) -> BoxAnswer
-    ensures { λ r. ⌜ r ≡ componentBoxOf kind o x y ⌝ }
-{
-    let r = aabb(kind, o, held(x), held(y));
-    let reply = r.reply;
-    let b = r.bounds;
-    let l = b.low;
-    let h = b.high;
-    let low = shown(l, reply == 0);
-    let high = shown(h, reply == 0);
-    BoxAnswer { reply, low, high }
 }

@@ -19,13 +19,19 @@ enum-told : tie.Need-enum-told
 enum-told c = search needs
 
 returns : tie.Need-returns
-returns c = let g = c .before .before .before .n .given in narrowed (c .before .before .before .before .before .before .args .x) (g .0 .0) true (handed (c .before .before .before .before .before .before .args .x) (c .before .before .before .before .before .before .fits .x) ∙ sym (c .before .before .before .before .before .place .ensures) ∙ g .1) (sym (c .before .is-position .ensures) ∙ c .if1 .taken)
+returns c =
+    let g = c .before .before .before .n .given in
+    let p = c .before .before .before .before .before in
+    narrowed (p .before .args .x) (g .0 .0) true (handed (p .before .args .x) (p .before .fits .x) ∙ sym (p .place .ensures) ∙ g .1) (sym (c .before .is-position .ensures) ∙ c .if1 .taken)
 
 returns-2 : tie.Need-returns-2
-returns-2 c = let g = c .before .before .before .n .given in narrowed (c .before .before .before .before .before .before .args .x) (g .0 .0) false (handed (c .before .before .before .before .before .before .args .x) (c .before .before .before .before .before .before .fits .x) ∙ sym (c .before .before .before .before .before .place .ensures) ∙ g .1) (sym (c .before .is-position .ensures) ∙ c .if1 .left)
+returns-2 c =
+    let g = c .before .before .before .n .given in
+    let p = c .before .before .before .before .before in
+    narrowed (p .before .args .x) (g .0 .0) false (handed (p .before .args .x) (p .before .fits .x) ∙ sym (p .place .ensures) ∙ g .1) (sym (c .before .is-position .ensures) ∙ c .if1 .left)
 
 returns-3 : tie.Need-returns-3
-returns-3 c = still-outside (c .before .before .before .args .x) (handed (c .before .before .before .args .x) (c .before .before .before .fits .x) ∙ sym (c .before .before .place .ensures) ∙ c .enum-told .given .1)
+returns-3 c = let p = c .before .before in still-outside (p .before .args .x) (handed (p .before .args .x) (p .before .fits .x) ∙ sym (p .place .ensures) ∙ c .enum-told .given .1)
 
 pub place-component-spec : {M : Type 1} → statement M
 place-component-spec =

@@ -1,3 +1,4 @@
+-- Sorting changes only the order of the keys, and joints do not depend on it.
 use Prim.Native.Nat.{_≤_}
 use native.Mathlib.Omega.{arith}
 use mathlib.Core.Path.{ap, _∙_}
@@ -8,13 +9,7 @@ use Rattle.joints.proofs.Keying.{marks-few, same-joints}
 use borrow.Author.Needs.{needs}
 use Rattle.joints.proofs.count_joints.Statement.{statement}
 use Rattle.joints.proofs.count_joints.Tie as tie
-use Rattle.joints.proofs.count_joints.Reads as reads
-use Rattle.joints.proofs.count_joints.Lts as lts
-use Rattle.joints.proofs.keys.mark_keys.Reads as mark-keys-reads
-use Rattle.joints.proofs.rows.gathered.Reads as gathered-reads
-use Rattle.joints.proofs.sort.sort.Reads as sort-reads
 
--- src/lib.rt:21:9
 mark-keys-requires : tie.Need-mark-keys-requires
 mark-keys-requires c κs = search needs
 
@@ -27,11 +22,9 @@ few c =
 sort-requires : tie.Need-sort-requires
 sort-requires c κs = few c
 
--- src/lib.rt:23:5
 gathered-requires : tie.Need-gathered-requires
 gathered-requires c κs = (omega (arith, few (c .before)), c .sort .ensures .1 .rising)
 
--- src/lib.rt:17:1
 returns : tie.Need-returns
 returns c = c .gathered .ensures ∙ ap jointTable (same-joints (c .before .before .mark-keys .ensures) (c .before .sort .ensures .1 .same))
 

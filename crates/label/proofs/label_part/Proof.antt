@@ -2,11 +2,11 @@
 use Prim.Native.Nat.{ℕ, _≤_, _<_, _-_}
 use borrow.Author.Count.{below-more}
 use borrow.Author.Needs.{needs}
-use lib.ListN.{length, getD}
+use lib.ListN.{length, getD, List·getD-eq-default}
 use lib.Seq.{length-take-le}
 use mathlib.Core.Path.{_≡_, sym}
 use native.Mathlib.Omega.{arith}
-use Rattle.label.proofs.Labels.{leading, past-end}
+use Rattle.label.proofs.Labels.{leading}
 use Rattle.label.proofs.label_part.Statement.{statement}
 use Rattle.label.proofs.label_part.Tie as tie
 
@@ -23,10 +23,10 @@ shared-slice-read-if1 : tie.Need-shared-slice-read-if1 Inv-loop μ-loop
 shared-slice-read-if1 c = search needs
 
 slice-aggregate-result : tie.Need-slice-aggregate-result Inv-loop μ-loop
-slice-aggregate-result c = sym (length-take-le (c .before .before .before .before .loop .i) (c .before .before .before .before .before .args .bytes .now) (c .before .before .before .before .loop .inv .0))
+slice-aggregate-result c = let l = c .before .before .before .before in sym (length-take-le (l .loop .i) (l .before .args .bytes .now) (l .loop .inv .0))
 
 returns : tie.Need-returns Inv-loop μ-loop
-returns c = leading (c .before .before .before .before .before .args .bytes .now) (c .before .before .before .before .loop .i) (c .before .before .before .before .loop .inv .1) (c .before .if1 .taken)
+returns c = let l = c .before .before .before .before in leading (l .before .args .bytes .now) (l .loop .i) (l .loop .inv .1) (c .before .if1 .taken)
 
 add-i : tie.Need-add-i Inv-loop μ-loop
 add-i c = search needs
@@ -38,10 +38,10 @@ loop-again : tie.Need-loop-again Inv-loop μ-loop
 loop-again c = (search needs, below-more _ _ (c .before .before .before .loop .inv .1) (c .if1 .left))
 
 slice-aggregate-result-2 : tie.Need-slice-aggregate-result-2 Inv-loop μ-loop
-slice-aggregate-result-2 c = sym (length-take-le (c .before .before .loop .i) (c .before .before .before .args .bytes .now) (c .before .before .loop .inv .0))
+slice-aggregate-result-2 c = let l = c .before .before in sym (length-take-le (l .loop .i) (l .before .args .bytes .now) (l .loop .inv .0))
 
 returns-2 : tie.Need-returns-2 Inv-loop μ-loop
-returns-2 c = leading (c .before .before .before .args .bytes .now) (c .before .before .loop .i) (c .before .before .loop .inv .1) (past-end (c .before .before .before .args .bytes .now) (c .before .before .loop .i) (omega arith))
+returns-2 c = let l = c .before .before in leading (l .before .args .bytes .now) (l .loop .i) (l .loop .inv .1) (List·getD-eq-default (l .before .args .bytes .now) 0 (omega arith))
 
 pub label-part-spec : {M : Type 1} → statement M
 label-part-spec =

@@ -22,7 +22,7 @@ shared-slice-read-if1 : tie.Need-shared-slice-read-if1 Inv-loop μ-loop
 shared-slice-read-if1 c = search needs
 
 returns : tie.Need-returns Inv-loop μ-loop
-returns c = sym (c .before .before .before .loop .inv ∙ no-zero (c .before .before .before .before .args .bytes .now) (c .before .before .before .loop .k) (c .if1 .taken))
+returns c = let l = c .before .before .before in sym (l .loop .inv ∙ no-zero (l .before .args .bytes .now) (l .loop .k) (c .if1 .taken))
 
 add-k : tie.Need-add-k Inv-loop μ-loop
 add-k c = search needs
@@ -31,10 +31,10 @@ loop-less : tie.Need-loop-less Inv-loop μ-loop
 loop-less c = search needs
 
 loop-again : tie.Need-loop-again Inv-loop μ-loop
-loop-again c = c .before .before .before .loop .inv ∙ zero-here (c .before .before .before .before .args .bytes .now) (c .before .before .before .loop .k) (c .if1 .left)
+loop-again c = let l = c .before .before .before in l .loop .inv ∙ zero-here (l .before .args .bytes .now) (l .loop .k) (c .if1 .left)
 
 returns-2 : tie.Need-returns-2 Inv-loop μ-loop
-returns-2 c = sym (c .before .loop .inv ∙ zero-end (c .before .before .args .bytes .now) (c .before .loop .k) (omega arith))
+returns-2 c = let l = c .before in sym (l .loop .inv ∙ zero-end (l .before .args .bytes .now) (l .loop .k) (omega arith))
 
 pub zeros-from-spec : {M : Type 1} → statement M
 zeros-from-spec =

@@ -9,18 +9,20 @@ is-known-requires : tie.Need-is-known-requires
 is-known-requires c κs = search needs
 
 sub-t4 : tie.Need-sub-t4
-sub-t4 c = smalls (c .before .before .before .before .args .o) (c .before .before .before .is-known .result) (c .before .before .before .is-known .ensures) (c .before .before .if1 .taken) .2 .neg-fits
+sub-t4 c = let k = c .before .before .before in smalls (k .before .args .o) (k .is-known .ensures) (c .before .before .if1 .taken) .2 .neg-fits
 
 sub-t5 : tie.Need-sub-t5
-sub-t5 c = smalls (c .before .before .before .before .before .before .args .o) (c .before .before .before .before .before .is-known .result) (c .before .before .before .before .before .is-known .ensures) (c .before .before .before .before .if1 .taken) .3 .neg-fits
+sub-t5 c = let k = c .before .before .before .before .before in smalls (k .before .args .o) (k .is-known .ensures) (c .before .before .before .before .if1 .taken) .3 .neg-fits
 
 returns : tie.Need-returns
 returns c =
-    let s = smalls (c .before .before .before .before .before .before .before .args .o) (c .before .before .before .before .before .before .is-known .result) (c .before .before .before .before .before .before .is-known .ensures) (c .before .before .before .before .before .if1 .taken) in
-    turned rightOf (c .before .before .before .before .before .before .before .args .o) (c .before .before .before .before .before .before .is-known .result) (c .before .before .before .before .before .before .is-known .ensures) (c .before .before .before .before .before .if1 .taken) (λ i. (s .2 .neg-is i, s .3 .neg-is i, s .0 .is i, s .1 .is i))
+    let t = c .before .before .before .before .before in
+    let k = t .before in
+    let s = smalls (k .before .args .o) (k .is-known .ensures) (t .if1 .taken) in
+    turned (k .before .args .o) (k .is-known .ensures) rightOf (t .if1 .taken) (λ i. (s .2 .neg-is i, s .3 .neg-is i, s .0 .is i, s .1 .is i))
 
 returns-2 : tie.Need-returns-2
-returns-2 c = unturned rightOf (c .before .before .args .o) (c .before .is-known .result) (c .before .is-known .ensures) (c .if1 .left)
+returns-2 c = unturned (c .before .before .args .o) (c .before .is-known .ensures) rightOf (c .if1 .left)
 
 pub rotate-r-spec : {M : Type 1} → statement M
 rotate-r-spec = tie.close (tie.spec is-known-requires sub-t4 sub-t5 returns returns-2)

@@ -1,3 +1,4 @@
+-- What the two calls say, put together.
 use borrow.Author.Needs.{needs}
 use mathlib.Core.Bool.{_&&_, _||_}
 use mathlib.Core.Path.{ap, _∙_}
@@ -5,20 +6,13 @@ use Rattle.symbol.specs.Symbols.{touchesOf}
 use Rattle.sheet.specs.Parts.{isContact}
 use Rattle.parts.proofs.meets.Statement.{statement}
 use Rattle.parts.proofs.meets.Tie as tie
-use Rattle.parts.proofs.meets.Reads as reads
-use Rattle.parts.proofs.meets.Lts as lts
-use Rattle.parts.proofs.box_of.Reads as box-of-reads
-use Rattle.symbol.proofs.touches.Reads as touches-reads
 
--- src/square.rt:24:42
 box-of-requires : tie.Need-box-of-requires
 box-of-requires c κs = search needs
 
--- src/square.rt:24:31
 touches-requires : tie.Need-touches-requires
 touches-requires c κs = search needs
 
--- src/square.rt:20:1
 returns : tie.Need-returns
 returns c =
     let a = c .before .before .before .args in

@@ -1,11 +1,9 @@
+-- Zero rows hold the empty list.
 use Rattle.sheet.specs.Drawings.{zeroComponent}
 use Rattle.lists.proofs.Tables.{holds-none}
 use Rattle.parts.proofs.no_parts.Statement.{statement}
 use Rattle.parts.proofs.no_parts.Tie as tie
-use Rattle.parts.proofs.no_parts.Reads as reads
-use Rattle.parts.proofs.no_parts.Lts as lts
 
--- src/lib.rt:19:1
 returns : tie.Need-returns
 returns c = holds-none 128 zeroComponent
 

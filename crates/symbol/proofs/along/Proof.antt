@@ -1,4 +1,4 @@
--- `symbol::along` meets its contract: each test of the two signed numbers leaves one of the four rows, and the position is added once, by `added`.
+-- `symbol::along` meets its contract: each test of the two signed numbers leaves one of the four rows, and the position is added once.
 use borrow.Author.Needs.{needs}
 use Rattle.symbol.proofs.Rows.{plus-left, minus-left, plus-right, minus-right}
 use Rattle.symbol.proofs.along.Statement.{statement}
@@ -11,7 +11,7 @@ sub-result : tie.Need-sub-result
 sub-result c = search needs
 
 returns : tie.Need-returns
-returns c = plus-left (c .before .args .a) (c .before .args .b) (c .before .pre .0) (c .before .args .dx) (c .before .args .dy) (c .before .args .p) (c .before .fits .a) (c .if1 .taken)
+returns c = let s = c .before in plus-left (s .args .dx) (s .args .dy) (s .args .p) (s .pre .of-row) (c .if1 .taken)
 
 add-result-2 : tie.Need-add-result-2
 add-result-2 c = search needs
@@ -20,7 +20,7 @@ sub-result-2 : tie.Need-sub-result-2
 sub-result-2 c = search needs
 
 returns-2 : tie.Need-returns-2
-returns-2 c = minus-left (c .before .before .args .a) (c .before .before .args .b) (c .before .before .pre .0) (c .before .before .args .dx) (c .before .before .args .dy) (c .before .before .args .p) (c .before .before .fits .a) (c .if2 .taken)
+returns-2 c = let s = c .before .before in minus-left (s .args .dx) (s .args .dy) (s .args .p) (s .pre .of-row) (c .if2 .taken)
 
 add-result-3 : tie.Need-add-result-3
 add-result-3 c = search needs
@@ -29,7 +29,7 @@ sub-result-3 : tie.Need-sub-result-3
 sub-result-3 c = search needs
 
 returns-3 : tie.Need-returns-3
-returns-3 c = plus-right (c .before .before .before .args .a) (c .before .before .before .args .b) (c .before .before .before .pre .0) (c .before .before .before .args .dx) (c .before .before .before .args .dy) (c .before .before .before .args .p) (c .before .before .if1 .left) (c .before .if2 .left) (c .before .before .before .fits .b) (c .if3 .taken)
+returns-3 c = let s = c .before .before .before in plus-right (s .args .dx) (s .args .dy) (s .args .p) (s .pre .of-row) (c .before .before .if1 .left) (c .before .if2 .left) (c .if3 .taken)
 
 add-result-4 : tie.Need-add-result-4
 add-result-4 c = search needs
@@ -38,7 +38,7 @@ sub-result-4 : tie.Need-sub-result-4
 sub-result-4 c = search needs
 
 returns-4 : tie.Need-returns-4
-returns-4 c = minus-right (c .before .before .before .args .a) (c .before .before .before .args .b) (c .before .before .before .pre .0) (c .before .before .before .args .dx) (c .before .before .before .args .dy) (c .before .before .before .args .p) (c .before .before .if1 .left) (c .before .if2 .left) (c .if3 .left)
+returns-4 c = let s = c .before .before .before in minus-right (s .args .dx) (s .args .dy) (s .args .p) (s .pre .of-row) (c .before .before .if1 .left) (c .before .if2 .left) (c .if3 .left)
 
 pub along-spec : {M : Type 1} → statement M
 along-spec =

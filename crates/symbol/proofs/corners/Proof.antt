@@ -16,7 +16,10 @@ greater-requires-2 : tie.Need-greater-requires-2
 greater-requires-2 c κs = search needs
 
 returns : tie.Need-returns
-returns c = λ i. record { low = record { x = c .before .before .before .lesser .ensures i; y = c .before .before .lesser2 .ensures i }; high = record { x = c .before .greater .ensures i; y = c .greater2 .ensures i } }
+returns c =
+    let a = c .before .before .before .lesser .ensures in
+    let b = c .before .before .lesser2 .ensures in
+    λ i. record { low = record { x = a i; y = b i }; high = record { x = c .before .greater .ensures i; y = c .greater2 .ensures i } }
 
 pub corners-spec : {M : Type 1} → statement M
 corners-spec =

@@ -1,22 +1,20 @@
 -- `symbol::mapped` meets its contract: the loop has mapped the first i points.
-use Prim.Native.Nat.{ℕ, _≤_, _-_}
+use Prim.Native.Nat.{_≤_, _-_}
 use borrow.Author.Needs.{needs}
-use lib.ListN.{getD}
-use mathlib.Core.List.{List}
-use mathlib.Core.Path.{_≡_, refl, sym, ap, _∙_, subst}
+use mathlib.Core.Path.{_≡_, refl, _∙_}
 use native.Mathlib.Omega.{arith}
 use Rattle.symbol.specs.Symbols.{movedOf, unused}
-use Rattle.symbol.specs.Steps.{offsetOf, mapFirst, Near}
+use Rattle.symbol.specs.Steps.{offsetOf, mapFirst}
 use Rattle.symbol.specs.declared.Point.{Point}
-use Rattle.symbol.proofs.Symbols.{still, again}
+use Rattle.symbol.proofs.Tables.{again}
 use Rattle.symbol.proofs.mapped.Statement.{statement}
 use Rattle.symbol.proofs.mapped.Tie as tie
 
 abbrev Inv-loop : tie.InvT-loop
-Inv-loop count o x y out₀ i₀ out i = (i ≤ count) × (out ≡ mapFirst (λ q. movedOf o x y (offsetOf q)) i out₀)
+Inv-loop count o x y points out₀ i₀ out i = (i ≤ count) × (out ≡ mapFirst (λ q. movedOf o x y (offsetOf q)) i points)
 
 abbrev μ-loop : tie.MeasureT-loop
-μ-loop count o x y out₀ i₀ out i = count - i
+μ-loop count o x y points out₀ i₀ out i = count - i
 
 loop-holds : tie.Need-loop-holds Inv-loop μ-loop
 loop-holds c = (search needs, refl)
@@ -25,16 +23,16 @@ mul-q : tie.Need-mul-q Inv-loop μ-loop
 mul-q c = search needs
 
 array-copy-out-q : tie.Need-array-copy-out-q Inv-loop μ-loop
-array-copy-out-q c = let p = c .before .before .pre .0 in omega arith
+array-copy-out-q c = search needs
 
 moved-requires : tie.Need-moved-requires Inv-loop μ-loop
-moved-requires c κs = (c .before .before .before .pre .1 .0, subst (λ (l : List Point). Near (getD l (c .before .before .loop .i) unused)) (sym (c .before .before .loop .inv .1)) (subst Near (sym (still (λ (q : Point). movedOf (c .before .before .before .args .o) (c .before .before .before .args .x) (c .before .before .before .args .y) (offsetOf q)) unused (c .before .before .loop .i) (c .before .before .before .args .points))) (c .before .before .before .pre .1 .1 (c .before .before .loop .i))))
+moved-requires c κs = let l = c .before .before in (l .before .pre .sound, l .before .pre .near (l .loop .i))
 
 mul-out : tie.Need-mul-out Inv-loop μ-loop
 mul-out c = search needs
 
 array-set-from-out : tie.Need-array-set-from-out Inv-loop μ-loop
-array-set-from-out c = let p = c .before .before .before .before .pre .0 in omega arith
+array-set-from-out c = search needs
 
 add-i : tie.Need-add-i Inv-loop μ-loop
 add-i c = search needs
@@ -43,10 +41,17 @@ loop-less : tie.Need-loop-less Inv-loop μ-loop
 loop-less c = omega arith
 
 loop-again : tie.Need-loop-again Inv-loop μ-loop
-loop-again c = (omega arith, again (λ (q : Point). movedOf (c .before .before .before .before .args .o) (c .before .before .before .before .args .x) (c .before .before .before .before .args .y) (offsetOf q)) unused (c .before .before .before .loop .i) (c .before .before .before .before .args .points) (c .before .before .before .loop .out) (c .moved .result) (c .before .before .before .loop .inv .1) (c .moved .ensures))
+loop-again c =
+    let l = c .before .before .before in
+    let s = l .before .args in
+    (omega arith, again (λ (q : Point). movedOf (s .o) (s .x) (s .y) (offsetOf q)) unused (l .loop .i) (s .t1) (l .loop .inv .1) (c .moved .ensures))
 
 returns : tie.Need-returns Inv-loop μ-loop
-returns c = let e : c .before .loop .i ≡ c .before .before .args .count = omega arith in c .before .loop .inv .1 ∙ ap (λ (n : ℕ). mapFirst (λ (q : Point). movedOf (c .before .before .args .o) (c .before .before .args .x) (c .before .before .args .y) (offsetOf q)) n (c .before .before .args .points)) e
+returns c =
+    let l = c .before in
+    let s = l .before .args in
+    let e : l .loop .i ≡ s .count = omega arith in
+    l .loop .inv .1 ∙ (λ j. mapFirst (λ (q : Point). movedOf (s .o) (s .x) (s .y) (offsetOf q)) (e j) (s .t1))
 
 pub mapped-spec : {M : Type 1} → statement M
 mapped-spec =

@@ -1,23 +1,20 @@
 -- `symbol::pads_at` meets its contract: the points of the table, mapped.
 use borrow.Author.Needs.{needs}
-use Rattle.symbol.proofs.Symbols.{few, pads-near, pads-made}
+use Rattle.symbol.proofs.Tables.{mapping, pads-made}
 use Rattle.symbol.proofs.pads_at.Statement.{statement}
 use Rattle.symbol.proofs.pads_at.Tie as tie
 
-symbol-pads-requires : tie.Need-symbol-pads-requires
-symbol-pads-requires c κs = search needs
+mul-p : tie.Need-mul-p
+mul-p c = search needs
+
+array-copy-out-p : tie.Need-array-copy-out-p
+array-copy-out-p c = search needs
 
 mapped-requires : tie.Need-mapped-requires
-mapped-requires c κs =
-    let s = c .before .before in
-    let b = c .before .symbol-pads in
-    (few (s .args .kind) (b .result) (b .ensures), (s .pre .sound, pads-near (s .args .kind) (b .result) (b .ensures)))
+mapped-requires c κs = let s = c .before .before in mapping (s .args .kind) (s .args .o) (s .args .x) (s .args .y) (s .pre .of-kind) (s .pre .sound)
 
 returns : tie.Need-returns
-returns c =
-    let s = c .before .before .before .args in
-    let b = c .before .before .symbol-pads in
-    pads-made (s .kind) (s .o) (s .x) (s .y) (b .result) (c .mapped .result) (b .ensures) (c .mapped .ensures)
+returns c = let s = c .before .before .before in pads-made (s .args .o) (s .args .x) (s .args .y) (s .args .kind) (s .pre .of-kind) (c .mapped .ensures)
 
 pub pads-at-spec : {M : Type 1} → statement M
-pads-at-spec = tie.close (tie.spec symbol-pads-requires mapped-requires returns)
+pads-at-spec = tie.close (tie.spec mul-p array-copy-out-p mapped-requires returns)

@@ -1,3 +1,4 @@
+-- A pass: after i wires the table holds the keys of their ends, two for each wire.
 use Prim.Native.Nat.{_≤_, _-_, _*_}
 use native.Mathlib.Omega.{arith}
 use mathlib.Core.Path.{_≡_, refl, _∙_}
@@ -9,12 +10,6 @@ use Rattle.joints.specs.Keys.{Keyed}
 use Rattle.joints.proofs.Keying.{keyed-push-two}
 use Rattle.joints.proofs.keys.end_keys.Statement.{statement}
 use Rattle.joints.proofs.keys.end_keys.Tie as tie
-use Rattle.joints.proofs.keys.end_keys.Reads as reads
-use Rattle.joints.proofs.keys.end_keys.Lts as lts
-use Rattle.joints.proofs.keys.key.Reads as key-reads
-use Rattle.joints.proofs.keys.no_keys.Reads as no-keys-reads
-use Rattle.wires.proofs.lines.high_tip.Reads as high-tip-reads
-use Rattle.wires.proofs.lines.low_tip.Reads as low-tip-reads
 
 abbrev Inv-loop : tie.InvT-loop
 Inv-loop ws n out₀ i₀ out i = (i ≤ n) × (length (ws .rows) ≡ 512) × (out .count ≡ 2 * i) × Pass Keyed tips (ws .rows) i out
@@ -22,71 +17,54 @@ Inv-loop ws n out₀ i₀ out i = (i ≤ n) × (length (ws .rows) ≡ 512) × (o
 abbrev μ-loop : tie.MeasureT-loop
 μ-loop ws n out₀ i₀ out i = n - i
 
--- src/keys.rt:36:19
 no-keys-requires : tie.Need-no-keys-requires Inv-loop μ-loop
 no-keys-requires c κs = tt
 
--- src/keys.rt:38:5
 loop-holds : tie.Need-loop-holds Inv-loop μ-loop
 loop-holds c = let z = c .no-keys .ensures .count-is in (omega arith, search long, omega arith, pass-start _ _ (c .no-keys .ensures))
 
--- src/keys.rt:39:17
 mul-w : tie.Need-mul-w Inv-loop μ-loop
 mul-w c = omega arith
 
--- src/keys.rt:39:17
 element-copy-out-w : tie.Need-element-copy-out-w Inv-loop μ-loop
 element-copy-out-w c = omega arith
 
--- src/keys.rt:41:27
 low-tip-requires : tie.Need-low-tip-requires Inv-loop μ-loop
 low-tip-requires c κs = tt
 
--- src/keys.rt:41:23
 key-requires : tie.Need-key-requires Inv-loop μ-loop
 key-requires c κs = tt
 
--- src/keys.rt:41:9
 mul-out : tie.Need-mul-out Inv-loop μ-loop
 mul-out c = omega arith
 
--- src/keys.rt:41:9
 element-write-out : tie.Need-element-write-out Inv-loop μ-loop
 element-write-out c = omega arith
 
--- src/keys.rt:42:31
 high-tip-requires : tie.Need-high-tip-requires Inv-loop μ-loop
 high-tip-requires c κs = tt
 
--- src/keys.rt:42:27
 key-requires-2 : tie.Need-key-requires-2 Inv-loop μ-loop
 key-requires-2 c κs = tt
 
--- src/keys.rt:42:18
 add-out : tie.Need-add-out Inv-loop μ-loop
 add-out c = omega arith
 
--- src/keys.rt:42:9
 mul-out-2 : tie.Need-mul-out-2 Inv-loop μ-loop
 mul-out-2 c = omega arith
 
--- src/keys.rt:42:9
 element-write-out-2 : tie.Need-element-write-out-2 Inv-loop μ-loop
 element-write-out-2 c = omega arith
 
--- src/keys.rt:43:21
 add-out-2 : tie.Need-add-out-2 Inv-loop μ-loop
 add-out-2 c = omega arith
 
--- src/keys.rt:44:9
 add-i : tie.Need-add-i Inv-loop μ-loop
 add-i c = omega arith
 
--- src/keys.rt:38:5
 loop-less : tie.Need-loop-less Inv-loop μ-loop
 loop-less c = omega arith
 
--- src/keys.rt:38:5
 loop-again : tie.Need-loop-again Inv-loop μ-loop
 loop-again c =
     let l = c .before .before .before .before .before .before .loop in
@@ -94,7 +72,6 @@ loop-again c =
     let high = c .key2 .ensures ∙ c .before .high-tip .ensures in
     (omega arith, omega arith, omega arith, pass-next _ (l .inv .3) refl (keyed-push-two _ _ (l .inv .3 .so-far) low high (omega arith)) (omega arith))
 
--- src/keys.rt:31:1
 returns : tie.Need-returns Inv-loop μ-loop
 unfolding ends
 returns c = pass-end (c .before .before .before .args .t1 .count) (c .before .loop .inv .3) (omega arith)

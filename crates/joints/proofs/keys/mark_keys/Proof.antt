@@ -1,3 +1,4 @@
+-- After i pads the table holds the keys of all wire ends and of these pads.
 use Prim.Native.Nat.{_≤_, _+_, _-_}
 use native.Mathlib.Omega.{arith}
 use mathlib.Core.Path.{_≡_}
@@ -7,10 +8,6 @@ use Rattle.sheet.specs.Drawings.{wireRows}
 use Rattle.joints.proofs.Keying.{KeyedTo, keyed-start, keyed-next, keyed-end, ends-few}
 use Rattle.joints.proofs.keys.mark_keys.Statement.{statement}
 use Rattle.joints.proofs.keys.mark_keys.Tie as tie
-use Rattle.joints.proofs.keys.mark_keys.Reads as reads
-use Rattle.joints.proofs.keys.mark_keys.Lts as lts
-use Rattle.joints.proofs.keys.end_keys.Reads as end-keys-reads
-use Rattle.joints.proofs.keys.key.Reads as key-reads
 
 abbrev Inv-loop : tie.InvT-loop
 Inv-loop pads n out₀ i₀ out i =
@@ -19,53 +16,41 @@ Inv-loop pads n out₀ i₀ out i =
 abbrev μ-loop : tie.MeasureT-loop
 μ-loop pads n out₀ i₀ out i = n - i
 
--- src/keys.rt:55:19
 end-keys-requires : tie.Need-end-keys-requires Inv-loop μ-loop
 end-keys-requires c κs = c .pre .0
 
--- src/keys.rt:57:5
 loop-holds : tie.Need-loop-holds Inv-loop μ-loop
 loop-holds c =
     let ws = c .before .args .ws in
     (omega arith, search long, ends-few (wireRows ws) (c .end-keys .ensures) (omega (arith, length-take (ws .count) (ws .rows))), omega arith, keyed-start (c .before .args .t2 .rows) (c .end-keys .ensures))
 
--- src/keys.rt:58:17
 mul-p : tie.Need-mul-p Inv-loop μ-loop
 mul-p c = omega arith
 
--- src/keys.rt:58:17
 element-copy-out-p : tie.Need-element-copy-out-p Inv-loop μ-loop
 element-copy-out-p c = omega arith
 
--- src/keys.rt:60:23
 key-requires : tie.Need-key-requires Inv-loop μ-loop
 key-requires c κs = tt
 
--- src/keys.rt:60:9
 mul-out : tie.Need-mul-out Inv-loop μ-loop
 mul-out c = omega arith
 
--- src/keys.rt:60:9
 element-write-out : tie.Need-element-write-out Inv-loop μ-loop
 element-write-out c = omega arith
 
--- src/keys.rt:61:21
 add-out : tie.Need-add-out Inv-loop μ-loop
 add-out c = omega arith
 
--- src/keys.rt:62:9
 add-i : tie.Need-add-i Inv-loop μ-loop
 add-i c = omega arith
 
--- src/keys.rt:57:5
 loop-less : tie.Need-loop-less Inv-loop μ-loop
 loop-less c = omega arith
 
--- src/keys.rt:57:5
 loop-again : tie.Need-loop-again Inv-loop μ-loop
 loop-again c = (omega arith, omega arith, omega arith, omega arith, keyed-next _ _ (c .before .before .before .loop .inv .4) (c .key .ensures) (omega arith) (omega arith))
 
--- src/keys.rt:50:1
 returns : tie.Need-returns Inv-loop μ-loop
 returns c = keyed-end (c .before .before .before .args .t2 .count) (c .before .before .end-keys .ensures) (c .before .loop .inv .4) (omega arith)
 

@@ -1,16 +1,13 @@
+-- A pass: the rows told so far, and those of the open key and the keys to come, are the joint rows of all keys.
 use Prim.Native.Nat.{_≤_, _<_, _-_}
 use native.Mathlib.Omega.{arith}
-use mathlib.Core.Path.{_≡_, refl}
+use mathlib.Core.Path.{_≡_}
 use mathlib.Core.Logic.{⊎-elim}
 use lib.ListN.{length}
 use Rattle.lists.proofs.Tables.{long}
 use Rattle.joints.proofs.Gathering.{Gathered, gather-start, gather-same, gather-next, gather-end, gather-none}
 use Rattle.joints.proofs.rows.gathered.Statement.{statement}
 use Rattle.joints.proofs.rows.gathered.Tie as tie
-use Rattle.joints.proofs.rows.gathered.Reads as reads
-use Rattle.joints.proofs.rows.gathered.Lts as lts
-use Rattle.joints.proofs.rows.joint_at.Reads as joint-at-reads
-use Rattle.joints.proofs.rows.no_joints.Reads as no-joints-reads
 
 abbrev Inv-loop : tie.InvT-loop
 Inv-loop ks n out₀ last₀ count₀ i₀ out last count i =
@@ -19,19 +16,15 @@ Inv-loop ks n out₀ last₀ count₀ i₀ out last count i =
 abbrev μ-loop : tie.MeasureT-loop
 μ-loop ks n out₀ last₀ count₀ i₀ out last count i = n - i
 
--- src/rows.rt:44:19
 no-joints-requires : tie.Need-no-joints-requires Inv-loop μ-loop
 no-joints-requires c κs = tt
 
--- src/rows.rt:46:9
 returns : tie.Need-returns Inv-loop μ-loop
 returns c = gather-none (c .before .before .args .t1 .rows) (c .before .no-joints .ensures) (c .if1 .taken)
 
--- src/rows.rt:48:20
 element-copy-out-last : tie.Need-element-copy-out-last Inv-loop μ-loop
 element-copy-out-last c = omega arith
 
--- src/rows.rt:51:5
 loop-holds : tie.Need-loop-holds Inv-loop μ-loop
 loop-holds c =
     let a = c .before .before .before .args .t1 in
@@ -39,43 +32,33 @@ loop-holds c =
     let some : 0 < a .count = omega arith in
     (omega arith, size, gather-start (a .rows) (c .before .before .no-joints .ensures) (c .before .before .before .pre .1) some (omega arith))
 
--- src/rows.rt:52:17
 mul-k : tie.Need-mul-k Inv-loop μ-loop
 mul-k c = omega arith
 
--- src/rows.rt:52:17
 element-copy-out-k : tie.Need-element-copy-out-k Inv-loop μ-loop
 element-copy-out-k c = omega arith
 
--- src/rows.rt:54:13
 add-count : tie.Need-add-count Inv-loop μ-loop
 add-count c = omega arith
 
--- src/rows.rt:57:27
 joint-at-requires : tie.Need-joint-at-requires Inv-loop μ-loop
 joint-at-requires c κs = tt
 
--- src/rows.rt:57:13
 mul-t22 : tie.Need-mul-t22 Inv-loop μ-loop
 mul-t22 c = omega arith
 
--- src/rows.rt:57:13
 element-set-from-out : tie.Need-element-set-from-out Inv-loop μ-loop
 element-set-from-out c = omega arith
 
--- src/rows.rt:58:25
 add-out : tie.Need-add-out Inv-loop μ-loop
 add-out c = omega arith
 
--- src/rows.rt:62:9
 add-i : tie.Need-add-i Inv-loop μ-loop
 add-i c = omega arith
 
--- src/rows.rt:51:5
 loop-less : tie.Need-loop-less Inv-loop μ-loop
 loop-less c = omega arith
 
--- src/rows.rt:51:5
 loop-again : tie.Need-loop-again Inv-loop μ-loop
 loop-again c =
     let g = c .before .before .before .loop .inv .2 in
@@ -85,23 +68,18 @@ loop-again c =
     (λ w. (omega arith, omega arith, rw (w .2, w .3, w .4, w .1 .ensures) (gather-next g (w .0 .left) test (omega arith) (omega arith))))
     (c .if2 .came)
 
--- src/rows.rt:65:19
 joint-at-requires-2 : tie.Need-joint-at-requires-2 Inv-loop μ-loop
 joint-at-requires-2 c κs = tt
 
--- src/rows.rt:65:5
 mul-t26 : tie.Need-mul-t26 Inv-loop μ-loop
 mul-t26 c = omega arith
 
--- src/rows.rt:65:5
 element-set-from-out-2 : tie.Need-element-set-from-out-2 Inv-loop μ-loop
 element-set-from-out-2 c = omega arith
 
--- src/rows.rt:66:17
 add-out-2 : tie.Need-add-out-2 Inv-loop μ-loop
 add-out-2 c = omega arith
 
--- src/rows.rt:39:1
 returns-2 : tie.Need-returns-2 Inv-loop μ-loop
 returns-2 c = rw (c .joint-at2 .ensures) (gather-end (c .before .before .loop .inv .2) (omega arith) (omega arith) (omega arith))
 

@@ -1,11 +1,9 @@
+-- The test is the definition's.
 use mathlib.Core.Path.{refl}
 use Rattle.sheet.specs.Points.{rises}
 use Rattle.parts.proofs.insert.ahead.Statement.{statement}
 use Rattle.parts.proofs.insert.ahead.Tie as tie
-use Rattle.parts.proofs.insert.ahead.Reads as reads
-use Rattle.parts.proofs.insert.ahead.Lts as lts
 
--- src/insert.rt:14:1
 returns : tie.Need-returns
 unfolding rises
 returns c = refl

@@ -1,3 +1,4 @@
+-- A row inserted in order goes behind those that it does not come before.
 use borrow.Author.Needs.{needs}
 use native.Mathlib.Omega.{arith}
 use mathlib.Core.Bool.{not}
@@ -6,23 +7,16 @@ use Rattle.sheet.specs.Parts.{ahead}
 use Rattle.sheet.specs.Drawings.{componentRows}
 use Rattle.parts.proofs.insert.insert_part.Statement.{statement}
 use Rattle.parts.proofs.insert.insert_part.Tie as tie
-use Rattle.parts.proofs.insert.insert_part.Reads as reads
-use Rattle.parts.proofs.insert.insert_part.Lts as lts
-use Rattle.parts.proofs.insert.insert_at.Reads as insert-at-reads
-use Rattle.parts.proofs.insert.place_of.Reads as place-of-reads
 
--- src/insert.rt:62:9
 place-of-requires : tie.Need-place-of-requires
 place-of-requires c κs = search needs
 
--- src/insert.rt:63:5
 insert-at-requires : tie.Need-insert-at-requires
 insert-at-requires c κs =
     let a = c .before .args in
     let h = c .before .pre in
     (h .0, (omega (arith, c .place-of .ensures, h .0 .count-is, span-le (λ b. not (ahead (a .c) b)) (componentRows (a .cs))), h .1))
 
--- src/insert.rt:58:1
 returns : tie.Need-returns
 returns c = insert-table ahead _ _ (c .before .place-of .ensures) (c .insert-at .ensures)
 

@@ -1,4 +1,4 @@
--- A search: the rows passed all stay before the wire.
+-- A search: the rows passed all stay before the component.
 use Prim.Native.Nat.{_≤_, _-_}
 use mathlib.Core.Bool.{not}
 use mathlib.Core.Path.{_≡_, sym, ap, _∙_}

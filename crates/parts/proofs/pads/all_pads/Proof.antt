@@ -1,3 +1,4 @@
+-- A pass: after i components the table lists their pads, a block behind a block.
 use Prim.Native.Nat.{_≤_, _-_, _*_}
 use native.Mathlib.Omega.{arith}
 use mathlib.Core.Path.{_≡_, refl}
@@ -11,9 +12,6 @@ use Rattle.parts.proofs.Fitting.{row-fits}
 use Rattle.parts.proofs.Listing.{lists-none, lists-block}
 use Rattle.parts.proofs.pads.all_pads.Statement.{statement}
 use Rattle.parts.proofs.pads.all_pads.Tie as tie
-use Rattle.parts.proofs.pads.all_pads.Reads as reads
-use Rattle.parts.proofs.pads.all_pads.Lts as lts
-use Rattle.parts.proofs.pads.pads_of.Reads as pads-of-reads
 
 abbrev Inv-loop : tie.InvT-loop
 Inv-loop cs out₀ n i₀ out i = (i ≤ n) × (length (cs .rows) ≡ 128) × (out .count ≤ 3 * i) × Pass Listed pads (cs .rows) i out
@@ -21,86 +19,66 @@ Inv-loop cs out₀ n i₀ out i = (i ≤ n) × (length (cs .rows) ≡ 128) × (o
 abbrev μ-loop : tie.MeasureT-loop
 μ-loop cs out₀ n i₀ out i = n - i
 
--- src/pads.rt:31:5
 loop-holds : tie.Need-loop-holds Inv-loop μ-loop
 loop-holds c = (omega arith, search long, omega arith, pass-start _ _ lists-none)
 
--- src/pads.rt:32:17
 mul-c : tie.Need-mul-c Inv-loop μ-loop
 mul-c c = omega arith
 
--- src/pads.rt:32:17
 element-copy-out-c : tie.Need-element-copy-out-c Inv-loop μ-loop
 element-copy-out-c c = omega arith
 
--- src/pads.rt:33:13
 pads-of-requires : tie.Need-pads-of-requires Inv-loop μ-loop
 pads-of-requires c κs = row-fits _ (c .before .before .before .pre) (c .before .before .loop .inv .1) (c .before .loop-test .taken)
 
--- src/pads.rt:37:23
 array-copy-out-out : tie.Need-array-copy-out-out Inv-loop μ-loop
 array-copy-out-out c = omega arith
 
--- src/pads.rt:37:9
 mul-out : tie.Need-mul-out Inv-loop μ-loop
 mul-out c = omega arith
 
--- src/pads.rt:37:9
 element-set-from-out : tie.Need-element-set-from-out Inv-loop μ-loop
 element-set-from-out c = omega arith
 
--- src/pads.rt:38:27
 array-copy-out-out-2 : tie.Need-array-copy-out-out-2 Inv-loop μ-loop
 array-copy-out-out-2 c = omega arith
 
--- src/pads.rt:38:18
 add-out : tie.Need-add-out Inv-loop μ-loop
 add-out c = omega arith
 
--- src/pads.rt:38:9
 mul-out-2 : tie.Need-mul-out-2 Inv-loop μ-loop
 mul-out-2 c = omega arith
 
--- src/pads.rt:38:9
 element-set-from-out-2 : tie.Need-element-set-from-out-2 Inv-loop μ-loop
 element-set-from-out-2 c = omega arith
 
--- src/pads.rt:39:27
 array-copy-out-out-3 : tie.Need-array-copy-out-out-3 Inv-loop μ-loop
 array-copy-out-out-3 c = omega arith
 
--- src/pads.rt:39:18
 add-t25 : tie.Need-add-t25 Inv-loop μ-loop
 add-t25 c = omega arith
 
--- src/pads.rt:39:9
 mul-t14 : tie.Need-mul-t14 Inv-loop μ-loop
 mul-t14 c = omega arith
 
--- src/pads.rt:39:9
 element-set-from-out-3 : tie.Need-element-set-from-out-3 Inv-loop μ-loop
 element-set-from-out-3 c = omega arith
 
--- src/pads.rt:40:21
 add-out-2 : tie.Need-add-out-2 Inv-loop μ-loop
 add-out-2 c = omega arith
 
--- src/pads.rt:41:9
 add-i : tie.Need-add-i Inv-loop μ-loop
 add-i c = omega arith
 
--- src/pads.rt:31:5
 loop-less : tie.Need-loop-less Inv-loop μ-loop
 loop-less c = omega arith
 
--- src/pads.rt:31:5
 loop-again : tie.Need-loop-again Inv-loop μ-loop
 loop-again c =
     let s = c .before .before .before .before .before .before .before .loop in
     let b = c .before .before .before .before .pads-of .ensures in
     (omega arith, omega arith, omega (arith, b .room), pass-next _ (s .inv .3) refl (lists-block unused (s .inv .3 .so-far) b (omega arith)) (omega arith))
 
--- src/pads.rt:22:1
 returns : tie.Need-returns Inv-loop μ-loop
 returns c = pass-end (c .before .before .args .t1 .count) (c .before .loop .inv .3) (omega arith)
 

@@ -1,3 +1,4 @@
+-- A pass: after i rows the table holds those of them that come out as told.
 use Prim.Native.Nat.{_≤_, _-_}
 use native.Mathlib.Omega.{arith}
 use mathlib.Core.Bool.{Bool·beq}
@@ -10,10 +11,6 @@ use Rattle.parts.specs.Tables.{TabledParts, met}
 use Rattle.parts.proofs.Fitting.{row-fits}
 use Rattle.parts.proofs.square.keep_met.Statement.{statement}
 use Rattle.parts.proofs.square.keep_met.Tie as tie
-use Rattle.parts.proofs.square.keep_met.Reads as reads
-use Rattle.parts.proofs.square.keep_met.Lts as lts
-use Rattle.parts.proofs.no_parts.Reads as no-parts-reads
-use Rattle.parts.proofs.meets.Reads as meets-reads
 
 abbrev Inv-loop : tie.InvT-loop
 Inv-loop b every hit cs n out₀ i₀ out i =
@@ -22,47 +19,36 @@ Inv-loop b every hit cs n out₀ i₀ out i =
 abbrev μ-loop : tie.MeasureT-loop
 μ-loop b every hit cs n out₀ i₀ out i = n - i
 
--- src/square.rt:33:19
 no-parts-requires : tie.Need-no-parts-requires Inv-loop μ-loop
 no-parts-requires c κs = tt
 
--- src/square.rt:35:5
 loop-holds : tie.Need-loop-holds Inv-loop μ-loop
 loop-holds c = let z = c .no-parts .ensures .count-is in (omega arith, search long, omega arith, pass-start _ _ (c .no-parts .ensures))
 
--- src/square.rt:36:17
 mul-c : tie.Need-mul-c Inv-loop μ-loop
 mul-c c = omega arith
 
--- src/square.rt:36:17
 element-copy-out-c : tie.Need-element-copy-out-c Inv-loop μ-loop
 element-copy-out-c c = omega arith
 
--- src/square.rt:37:12
 meets-requires : tie.Need-meets-requires Inv-loop μ-loop
 meets-requires c κs = row-fits _ (c .before .before .before .before .pre) (c .before .before .loop .inv .1) (c .before .loop-test .taken)
 
--- src/square.rt:39:13
 mul-c-2 : tie.Need-mul-c-2 Inv-loop μ-loop
 mul-c-2 c = omega arith
 
--- src/square.rt:39:13
 element-set-from-c : tie.Need-element-set-from-c Inv-loop μ-loop
 element-set-from-c c = omega arith
 
--- src/square.rt:40:25
 add-out : tie.Need-add-out Inv-loop μ-loop
 add-out c = omega arith
 
--- src/square.rt:42:9
 add-i : tie.Need-add-i Inv-loop μ-loop
 add-i c = omega arith
 
--- src/square.rt:35:5
 loop-less : tie.Need-loop-less Inv-loop μ-loop
 loop-less c = omega arith
 
--- src/square.rt:35:5
 loop-again : tie.Need-loop-again Inv-loop μ-loop
 loop-again c =
     let s = c .before .before .before .before .loop .inv .3 in
@@ -72,7 +58,6 @@ loop-again c =
     (λ v. (omega arith, omega arith, rw (v .1) (omega arith), rw (v .1) (pass-skip _ s (only-no _ _ (t ∙ v .0 .left)) (omega arith))))
     (c .if1 .came)
 
--- src/square.rt:28:1
 returns : tie.Need-returns Inv-loop μ-loop
 returns c = holds-as (keep-gather _ _) (pass-end (c .before .before .before .args .t1 .count) (c .before .loop .inv .3) (omega arith))
 

@@ -1,3 +1,4 @@
+-- A walk: no row passed so far.
 use Prim.Native.Nat.{_≤_, _-_}
 use native.Mathlib.Omega.{arith}
 use mathlib.Core.Path.{_≡_, sym, _∙_}
@@ -10,8 +11,6 @@ use Rattle.parts.specs.Tables.{met}
 use Rattle.parts.proofs.Fitting.{row-fits}
 use Rattle.parts.proofs.touch.meets_any.Statement.{statement}
 use Rattle.parts.proofs.touch.meets_any.Tie as tie
-use Rattle.parts.proofs.touch.meets_any.Reads as reads
-use Rattle.parts.proofs.touch.meets_any.Lts as lts
 
 abbrev Inv-loop : tie.InvT-loop
 Inv-loop b cs n i₀ i = (i ≤ n) × (length (cs .rows) ≡ 128) × Rest (any (met b true)) (cs .rows) n i (any (met b true) (take n (cs .rows)))
@@ -19,38 +18,30 @@ Inv-loop b cs n i₀ i = (i ≤ n) × (length (cs .rows) ≡ 128) × Rest (any (
 abbrev μ-loop : tie.MeasureT-loop
 μ-loop b cs n i₀ i = n - i
 
--- src/touch.rt:21:5
 loop-holds : tie.Need-loop-holds Inv-loop μ-loop
 loop-holds c = (omega arith, search long, rest-start _ _ _)
 
--- src/touch.rt:22:17
 mul-d : tie.Need-mul-d Inv-loop μ-loop
 mul-d c = omega arith
 
--- src/touch.rt:22:17
 element-copy-out-d : tie.Need-element-copy-out-d Inv-loop μ-loop
 element-copy-out-d c = omega arith
 
--- src/touch.rt:23:23
 meets-requires : tie.Need-meets-requires Inv-loop μ-loop
 meets-requires c κs = row-fits _ (c .before .before .before .pre) (c .before .before .loop .inv .1) (c .before .loop-test .taken)
 
 returns : tie.Need-returns Inv-loop μ-loop
 returns c = any-stop _ _ (c .before .before .before .before .loop .inv .2) (sym (c .before .meets .ensures) ∙ c .if1 .taken) (omega arith) (omega arith)
 
--- src/touch.rt:26:9
 add-i : tie.Need-add-i Inv-loop μ-loop
 add-i c = omega arith
 
--- src/touch.rt:21:5
 loop-less : tie.Need-loop-less Inv-loop μ-loop
 loop-less c = omega arith
 
--- src/touch.rt:21:5
 loop-again : tie.Need-loop-again Inv-loop μ-loop
 loop-again c = (omega arith, omega arith, any-next _ _ (c .before .before .before .before .loop .inv .2) (sym (c .before .meets .ensures) ∙ c .if1 .left) (omega arith) (omega arith))
 
--- src/touch.rt:15:1
 returns-2 : tie.Need-returns-2 Inv-loop μ-loop
 returns-2 c = any-end _ (c .before .loop .inv .2) (omega arith) (omega arith)
 

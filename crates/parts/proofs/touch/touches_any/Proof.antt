@@ -1,3 +1,4 @@
+-- To touch a component is to meet its box.
 use borrow.Author.Needs.{needs}
 use mathlib.Core.Bool.{true}
 use mathlib.Core.Path.{ap, _∙_}
@@ -7,20 +8,13 @@ use Rattle.sheet.specs.Drawings.{componentRows}
 use Rattle.parts.specs.Tables.{met}
 use Rattle.parts.proofs.touch.touches_any.Statement.{statement}
 use Rattle.parts.proofs.touch.touches_any.Tie as tie
-use Rattle.parts.proofs.touch.touches_any.Reads as reads
-use Rattle.parts.proofs.touch.touches_any.Lts as lts
-use Rattle.parts.proofs.box_of.Reads as box-of-reads
-use Rattle.parts.proofs.touch.meets_any.Reads as meets-any-reads
 
--- src/touch.rt:36:9
 box-of-requires : tie.Need-box-of-requires
 box-of-requires c κs = search needs
 
--- src/touch.rt:37:5
 meets-any-requires : tie.Need-meets-any-requires
 meets-any-requires c κs = search needs
 
--- src/touch.rt:32:1
 returns : tie.Need-returns
 unfolding touches
 returns c = c .meets-any .ensures ∙ ap (λ b. any (met b true) (componentRows (c .before .before .args .cs))) (c .before .box-of .ensures)

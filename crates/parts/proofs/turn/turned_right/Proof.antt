@@ -1,22 +1,16 @@
+-- A known orientation is turned, not refused.
 use borrow.Author.Needs.{needs}
 use Rattle.orientation.specs.Orientations.{rightOf}
 use Rattle.parts.proofs.Fitting.{turned-part}
 use Rattle.parts.proofs.turn.turned_right.Statement.{statement}
 use Rattle.parts.proofs.turn.turned_right.Tie as tie
-use Rattle.parts.proofs.turn.turned_right.Reads as reads
-use Rattle.parts.proofs.turn.turned_right.Lts as lts
-use Rattle.orientation.proofs.rotate_r.Reads as rotate-r-reads
-use Rattle.parts.proofs.turn.reoriented.Reads as reoriented-reads
 
--- src/turn.rt:29:9
 rotate-r-requires : tie.Need-rotate-r-requires
 rotate-r-requires c κs = search needs
 
--- src/turn.rt:31:5
 reoriented-requires : tie.Need-reoriented-requires
 reoriented-requires c κs = search needs
 
--- src/turn.rt:24:1
 returns : tie.Need-returns
 returns c = turned-part rightOf (c .before .before .before .before .args .c) (c .before .before .before .before .pre) (c .before .before .rotate-r .ensures) (c .reoriented .ensures)
 

@@ -1,0 +1,113 @@
+-- Each answer, by what was found of the numbers.
+use Prim.Native.Nat.{ℕ}
+use native.Mathlib.Omega.{arith}
+use mathlib.Core.Bool.{Bool, true, false, _&&_, not}
+use mathlib.Core.Path.{_≡_, refl, sym, ap, _∙_}
+use borrow.Author.Tests.{eq-eqb, ne-eqb}
+use lib.Dec.{eqb, leb}
+use lib.IntN.{ℤ}
+use lib.Signed.{leZ}
+use Rattle.edge.specs.Coordinates.{biased, toℕ, sizedReply, sizeOf}
+use Rattle.orientation.specs.declared.RotMirror.{RotMirror}
+use Rattle.orientation.specs.Orientations.{known}
+use Rattle.label.specs.declared.Label.{Label}
+use Rattle.label.specs.declared.Held.{Held}
+use Rattle.label.specs.Labels.{heldLabel}
+use Rattle.asked.specs.declared.Found.{Found}
+use Rattle.asked.specs.declared.AskedWire.{AskedWire}
+use Rattle.asked.specs.declared.AskedPart.{AskedPart}
+use Rattle.asked.specs.declared.AskedPointer.{AskedPointer}
+use Rattle.asked.specs.Asked.{ranged, noWire, askedWire, noPart, askedPart, noPointer, askedPointer}
+use Rattle.asked.proofs.Ranges.{Tells}
+
+not-true : {b : Bool} → not b ≡ true → b ≡ false
+not-true {b = true} e = sym e
+not-true {b = false} e = refl
+
+not-false : {b : Bool} → not b ≡ false → b ≡ true
+not-false {b = true} e = refl
+not-false {b = false} e = sym e
+
+-- both tests pass
+pub both : (a b : Bool) → (a && b) ≡ true → (a ≡ true) × (b ≡ true)
+both true b e = (refl, e)
+both false b e = absurd (let y : _≡_ {A = ℕ} 0 1 = cc in omega arith)
+
+module _ (v : Bool) (l s e : ℤ) {a b c : Found} (p : Tells (ranged 6000 l) (biased l) a) (q : Tells (ranged 6000 s) (biased s) b) (r : Tells (ranged 6000 e) (biased e) c) where
+  tested : (a .inside && (b .inside && c .inside)) ≡ (ranged 6000 l && (ranged 6000 s && ranged 6000 e))
+  tested = λ i. p .inside-is i && (q .inside-is i && r .inside-is i)
+
+  pub far-wire : not (a .inside && (b .inside && c .inside)) ≡ true → noWire 1 ≡ askedWire v l s e
+  unfolding askedWire
+  far-wire t = rw (sym tested ∙ not-true t)
+
+  module _ (t : not (a .inside && (b .inside && c .inside)) ≡ false) where
+    near : (ranged 6000 l && (ranged 6000 s && ranged 6000 e)) ≡ true
+    near = sym tested ∙ not-false t
+
+    pub backward-wire : leZ s e ≡ false → noWire 2 ≡ askedWire v l s e
+    unfolding askedWire
+    backward-wire u = rw (near, u)
+
+    pub asked-wire : leZ s e ≡ true → _≡_ {A = AskedWire} (record { reply = 0; wire = record { vertical = v; line = a .at; start = b .at; end = c .at } }) (askedWire v l s e)
+    unfolding askedWire
+    asked-wire u =
+        let x = both (ranged 6000 l) (ranged 6000 s && ranged 6000 e) near in
+        let y = both (ranged 6000 s) (ranged 6000 e) (x .1) in
+        rw (near, u) (λ i. record { reply = 0; wire = record { vertical = v; line = p .number (x .0) i; start = q .number (y .0) i; end = r .number (y .1) i } })
+
+module _ (k : ℕ) (o : RotMirror) (x y : ℤ) (l : Label) {j : Bool} (w : j ≡ known o) where
+  pub unknown-part : not (leb k 2 && j) ≡ true → noPart 4 ≡ askedPart k o x y l
+  unfolding askedPart
+  unknown-part t = rw (ap (λ (b : Bool). leb k 2 && b) (sym w) ∙ not-true t)
+
+  module _ (t : not (leb k 2 && j) ≡ false) {a b : Found} (p : Tells (ranged 5800 x) (biased x) a) (q : Tells (ranged 5800 y) (biased y) b) where
+    sort : (leb k 2 && known o) ≡ true
+    sort = ap (λ (b : Bool). leb k 2 && b) (sym w) ∙ not-false t
+
+    placed : (a .inside && b .inside) ≡ (ranged 5800 x && ranged 5800 y)
+    placed = λ i. p .inside-is i && q .inside-is i
+
+    pub far-part : not (a .inside && b .inside) ≡ true → noPart 1 ≡ askedPart k o x y l
+    unfolding askedPart
+    far-part u = rw (sort, sym placed ∙ not-true u)
+
+    module _ (u : not (a .inside && b .inside) ≡ false) {h : Held} (e : h ≡ heldLabel l) where
+      in-place : (ranged 5800 x && ranged 5800 y) ≡ true
+      in-place = sym placed ∙ not-false u
+
+      reply : h .reply ≡ heldLabel l .reply
+      reply = λ i. e i .reply
+
+      pub unlabelled-part : (h .reply ≡ 0 → ⊥) → noPart 5 ≡ askedPart k o x y l
+      unfolding askedPart
+      unlabelled-part f = rw (sort, in-place, ne-eqb (heldLabel l .reply) 0 (λ z. f (reply ∙ z)))
+
+      pub asked-part : h .reply ≡ 0 → _≡_ {A = AskedPart} (record { reply = 0; part = record { kind = k; «rot_mirror» = o; x = a .at; y = b .at; label = h .bytes } }) (askedPart k o x y l)
+      unfolding askedPart
+      asked-part z =
+          let s = both (ranged 5800 x) (ranged 5800 y) in-place in
+          rw (sort, in-place, eq-eqb (heldLabel l .reply) 0 (sym reply ∙ z)) (λ i. record { reply = 0; part = record { kind = k; «rot_mirror» = o; x = p .number (s .0) i; y = q .number (s .1) i; label = e i .bytes } })
+
+module _ (x y n : ℤ) {a b c : Found} (p : Tells (ranged 6000 x) (biased x) a) (q : Tells (ranged 6000 y) (biased y) b) (r : Tells (eqb (sizedReply (sizeOf n)) 0) (toℕ n) c) where
+  pointed : (a .inside && b .inside) ≡ (ranged 6000 x && ranged 6000 y)
+  pointed = λ i. p .inside-is i && q .inside-is i
+
+  pub far-pointer : not (a .inside && b .inside) ≡ true → noPointer 1 ≡ askedPointer x y n
+  unfolding askedPointer
+  far-pointer t = rw (sym pointed ∙ not-true t)
+
+  module _ (t : not (a .inside && b .inside) ≡ false) where
+    in-reach : (ranged 6000 x && ranged 6000 y) ≡ true
+    in-reach = sym pointed ∙ not-false t
+
+    pub sizeless-pointer : not (c .inside) ≡ true → noPointer 3 ≡ askedPointer x y n
+    unfolding askedPointer
+    sizeless-pointer u = rw (in-reach, sym (r .inside-is) ∙ not-true u)
+
+    pub asked-pointer : not (c .inside) ≡ false → _≡_ {A = AskedPointer} (record { reply = 0; point = record { x = a .at; y = b .at }; size = c .at }) (askedPointer x y n)
+    unfolding askedPointer
+    asked-pointer u =
+        let s = both (ranged 6000 x) (ranged 6000 y) in-reach in
+        let z : eqb (sizedReply (sizeOf n)) 0 ≡ true = sym (r .inside-is) ∙ not-false u in
+        rw (in-reach, z) (λ i. record { reply = 0; point = record { x = p .number (s .0) i; y = q .number (s .1) i }; size = r .number z i })

@@ -1,0 +1,53 @@
+-- What `edge` finds of a number: whether it is in its range, and then the row's number.
+use Prim.Native.Nat.{ℕ}
+use native.Mathlib.Omega.{arith}
+use mathlib.Core.Bool.{Bool, true, false, cond}
+use mathlib.Core.Path.{_≡_, refl, sym, ap, _∙_}
+use lib.Dec.{eqb, leb}
+use lib.IntN.{ℤ, pos, negsuc}
+use lib.Signed.{leZ}
+use mir.Syntax.{w32}
+use mir.Val.{SFits, toZ, ofZ}
+use mir.Facts.{toZ-ofZ}
+use Rattle.edge.specs.Coordinates.{biased, placeOf, toℕ, sizedReply, sizeOf}
+use Rattle.edge.specs.declared.Placed.{Placed}
+use Rattle.edge.specs.declared.Placed.the-variants.{Inside, Outside}
+use Rattle.edge.specs.declared.Sized.{Sized}
+use Rattle.edge.specs.declared.Sized.the-variants.{Is, Wrong}
+use Rattle.asked.specs.declared.Found.{Found}
+use Rattle.asked.specs.Asked.{ranged}
+use Rattle.asked.specs.Rows.{rowOf, sizeRow}
+
+-- r tells whether the test b passes, and if so it holds n
+pub record Tells (b : Bool) (n : ℕ) (r : Found) : Type 0 where
+  pub inside-is : r .inside ≡ b
+  pub number : b ≡ true → r .at ≡ n
+
+row-tells : (k : ℕ) (z : ℤ) → Tells (ranged k z) (biased z) (rowOf (placeOf k z))
+unfolding placeOf
+row-tells k z = go (ranged k z)
+  where
+    go : (b : Bool) → Tells b (biased z) (rowOf (cond b (Inside (biased z)) Outside))
+    go true = record { inside-is = refl; number = λ e. refl }
+    go false = record { inside-is = refl; number = λ e. absurd (let y : _≡_ {A = ℕ} 0 1 = cc in omega arith) }
+
+size-tells : (z : ℤ) → Tells (eqb (sizedReply (sizeOf z)) 0) (toℕ z) (sizeRow (sizeOf z))
+unfolding sizeOf
+size-tells (negsuc n) = record { inside-is = refl; number = λ e. absurd (let y : _≡_ {A = ℕ} 0 1 = cc in omega arith) }
+size-tells (pos n) = go (leb n 1000)
+  where
+    go : (b : Bool) → Tells (eqb (sizedReply (cond b (Is n) Wrong)) 0) n (sizeRow (cond b (Is n) Wrong))
+    go true = record { inside-is = refl; number = λ e. refl }
+    go false = record { inside-is = refl; number = λ e. absurd (let y : _≡_ {A = ℕ} 0 1 = cc in omega arith) }
+
+-- z as it reaches `edge` comes out of its bits as it was
+module _ (z : ℤ) (f : SFits w32 z) {r : Found} where
+  pub in-range : (k : ℕ) {p : Placed} → p ≡ placeOf k (toZ w32 (ofZ w32 z)) → r ≡ rowOf p → Tells (ranged k z) (biased z) r
+  in-range k e q = rw (q ∙ ap rowOf (e ∙ ap (placeOf k) (toZ-ofZ {w = w32} {z = z} f))) (row-tells k z)
+
+  pub in-size : {s : Sized} → s ≡ sizeOf (toZ w32 (ofZ w32 z)) → r ≡ sizeRow s → Tells (eqb (sizedReply (sizeOf z)) 0) (toℕ z) r
+  in-size e q = rw (q ∙ ap sizeRow (e ∙ ap sizeOf (toZ-ofZ {w = w32} {z = z} f))) (size-tells z)
+
+-- and so do two numbers that are compared
+pub order-kept : (a b : ℤ) → SFits w32 a → SFits w32 b → {t : Bool} → leZ (toZ w32 (ofZ w32 a)) (toZ w32 (ofZ w32 b)) ≡ t → leZ a b ≡ t
+order-kept a b f g e = (λ i. leZ (sym (toZ-ofZ {w = w32} {z = a} f) i) (sym (toZ-ofZ {w = w32} {z = b} g) i)) ∙ e

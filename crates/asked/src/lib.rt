@@ -1,0 +1,174 @@
+// What a caller asks for, as rows hold it, or the first refusal that the numbers alone decide.
+ghost use mathlib.Core.Path.{_≡_};
+ghost use Rattle.asked.specs.Asked.{noWire, askedWire, noPart, askedPart, noPointer, askedPointer};
+ghost use Rattle.asked.specs.Rows.{rowOf, sizeRow};
+use edge::Placed;
+use edge::Sized;
+use edge::place;
+use edge::place_component;
+use label::Label;
+use label::held_label;
+use orientation::RotMirror;
+use orientation::is_known;
+use sheet::Component;
+use sheet::Wire;
+use symbol::Point;
+
+// A wire, or the refusal and zeros.
+pub struct AskedWire {
+    pub reply: u8,
+    pub wire: Wire,
+}
+
+// A component, or the refusal and zeros.
+pub struct AskedPart {
+    pub reply: u8,
+    pub part: Component,
+}
+
+// A pointer and its size, or the refusal and zeros.
+pub struct AskedPointer {
+    pub reply: u8,
+    pub point: Point,
+    pub size: u16,
+}
+
+// A number as rows hold it, or none and 0.
+struct Found {
+    inside: bool,
+    at: u16,
+}
+
+fn row(p: Placed) -> Found
+    ensures { λ r. ⌜ r ≡ rowOf p ⌝ }
+{
+    match p {
+        Placed::Inside(n) => Found {
+            inside: true,
+            at: n,
+        },
+        Placed::Outside => Found {
+            inside: false,
+            at: 0,
+        },
+    }
+}
+
+fn size_row(s: Sized) -> Found
+    ensures { λ r. ⌜ r ≡ sizeRow s ⌝ }
+{
+    match s {
+        Sized::Is(n) => Found {
+            inside: true,
+            at: n,
+        },
+        Sized::Wrong => Found {
+            inside: false,
+            at: 0,
+        },
+    }
+}
+
+fn no_wire(reply: u8) -> AskedWire
+    ensures { λ r. ⌜ r ≡ noWire reply ⌝ }
+{
+    let wire = Wire {
+        vertical: false,
+        line: 0,
+        start: 0,
+        end: 0,
+    };
+    AskedWire { reply, wire }
+}
+
+// A wire from its coordinates: each in its range, else 1; the start not greater than the end, else 2.
+pub fn asked_wire(vertical: bool, line: i32, start: i32, end: i32) -> AskedWire
+    ensures { λ r. ⌜ r ≡ askedWire vertical line start end ⌝ }
+{
+    let l = row(place(line));
+    let s = row(place(start));
+    let e = row(place(end));
+    if !(l.inside & (s.inside & e.inside)) {
+        return no_wire(1);
+    }
+    if start <= end {
+        let wire = Wire {
+            vertical,
+            line: l.at,
+            start: s.at,
+            end: e.at,
+        };
+        return AskedWire { reply: 0, wire };
+    }
+    no_wire(2)
+}
+
+fn no_part(reply: u8) -> AskedPart
+    ensures { λ r. ⌜ r ≡ noPart reply ⌝ }
+{
+    let part = Component {
+        kind: 0,
+        rot_mirror: RotMirror(0, 0, 0, 0),
+        x: 0,
+        y: 0,
+        label: [0u8; 16],
+    };
+    AskedPart { reply, part }
+}
+
+// A component: a known kind and orientation, else 4; its position in its range, else 1; its label, else 5.
+pub fn asked_part(kind: u8, rot_mirror: RotMirror, x: i32, y: i32, label: Label) -> AskedPart
+    ensures { λ r. ⌜ r ≡ askedPart kind «rot_mirror» x y label ⌝ }
+{
+    if !((kind <= 2) & is_known(rot_mirror)) {
+        return no_part(4);
+    }
+    let a = row(place_component(x));
+    let b = row(place_component(y));
+    if !(a.inside & b.inside) {
+        return no_part(1);
+    }
+    let held = held_label(label);
+    if held.reply != 0 {
+        return no_part(5);
+    }
+    let bytes = held.bytes;
+    let part = Component {
+        kind,
+        rot_mirror,
+        x: a.at,
+        y: b.at,
+        label: bytes,
+    };
+    AskedPart { reply: 0, part }
+}
+
+fn no_pointer(reply: u8) -> AskedPointer
+    ensures { λ r. ⌜ r ≡ noPointer reply ⌝ }
+{
+    AskedPointer {
+        reply,
+        point: Point { x: 0, y: 0 },
+        size: 0,
+    }
+}
+
+// A pointer: each coordinate in its range, else 1; its size in its range, else 3.
+pub fn asked_pointer(x: i32, y: i32, size: i32) -> AskedPointer
+    ensures { λ r. ⌜ r ≡ askedPointer x y size ⌝ }
+{
+    let a = row(place(x));
+    let b = row(place(y));
+    let n = size_row(edge::size(size));
+    if !(a.inside & b.inside) {
+        return no_pointer(1);
+    }
+    if !n.inside {
+        return no_pointer(3);
+    }
+    AskedPointer {
+        reply: 0,
+        point: Point { x: a.at, y: b.at },
+        size: n.at,
+    }
+}

@@ -1,0 +1,68 @@
+-- Each way out of `wire` and `junction`: the tests that led there decide the definition.
+use mathlib.Core.Path.{_≡_, sym, _∙_}
+use Prim.Native.Nat.{ℕ, _≤_, _<_}
+use mathlib.Core.Bool.{Bool, true, false, _&&_}
+use lib.Dec.{lit≤}
+use lib.IntN.{ℤ}
+use lib.Signed.{ltZ}
+use borrow.Author.Tests.{le-leb, lt-leb, eq-eqb, ne-eqb}
+use Rattle.draw.specs.Symbols.{whole}
+use Rattle.draw.specs.Transforms.{position}
+use Rattle.draw.specs.declared.Vector2.{Vector2}
+use Rattle.draw.specs.declared.Draw.the-variants.{Line, Circle}
+use Rattle.cad.specs.Answers.{Answer, drawn, no-shape, refused}
+use Rattle.cad.specs.Shapes.{within, wireShape, junctionShape}
+use Rattle.cad.proofs.Places.{Tested, Small, small, small-two, both}
+
+module _ (vertical : Bool) {line start end : ℤ} {l s e : Bool} (L : Tested 6000 line l) (S : Tested 6000 start s) (E : Tested 6000 end e) where
+  abbrev Wire : Answer → Type 0
+  Wire r = r ≡ wireShape vertical line start end
+
+  range : {b : Bool} → (l && (s && e)) ≡ b → (within 6000 line && (within 6000 start && within 6000 end)) ≡ b
+  range t = sym (λ j. L .is j && (S .is j && E .is j)) ∙ t
+
+  pub wire-outside : (l && (s && e)) ≡ false → Wire (refused 1)
+  unfolding wireShape
+  wire-outside t = simp (range t)
+
+  module _ (t : (l && (s && e)) ≡ true) where
+    pub small-three : Small line × (Small start × Small end)
+    small-three = let k = both l (s && e) t in (small L (lit≤ tt) (k .0), small-two S E (lit≤ tt) (k .1))
+
+    pub reversed : ltZ end start ≡ true → Wire (refused 2)
+    unfolding wireShape
+    reversed u = simp (range t, u)
+
+    module _ {p q : Vector2} (u : ltZ end start ≡ false) where
+      pub downward : vertical ≡ true → p ≡ position line start → q ≡ position line end → Wire (drawn (Line p q (whole 6)))
+      unfolding wireShape
+      downward v f g = simp (range t, u, v, f, g)
+
+      pub across : vertical ≡ false → p ≡ position start line → q ≡ position end line → Wire (drawn (Line p q (whole 6)))
+      unfolding wireShape
+      across v f g = simp (range t, u, v, f, g)
+
+module _ {x y : ℤ} (count : ℕ) {a b : Bool} (X : Tested 6000 x a) (Y : Tested 6000 y b) where
+  abbrev Mark : Answer → Type 0
+  Mark r = r ≡ junctionShape x y count
+
+  at-point : {t : Bool} → (a && b) ≡ t → (within 6000 x && within 6000 y) ≡ t
+  at-point t = sym (λ j. X .is j && Y .is j) ∙ t
+
+  pub mark-outside : (a && b) ≡ false → Mark (refused 1)
+  unfolding junctionShape
+  mark-outside t = simp (at-point t)
+
+  module _ {p : Vector2} (t : (a && b) ≡ true) (f : p ≡ position x y) where
+    pub dot : 3 ≤ count → Mark (drawn (Line p p (whole 40)))
+    unfolding junctionShape
+    dot h = simp (at-point t, le-leb 3 count h, f)
+
+    module _ (h : count < 3) where
+      pub loose : count ≡ 1 → Mark (drawn (Circle p (whole 10) (whole 1)))
+      unfolding junctionShape
+      loose k = simp (at-point t, lt-leb 3 count h, eq-eqb count 1 k, f)
+
+      pub bare : (count ≡ 1 → ⊥) → Mark no-shape
+      unfolding junctionShape
+      bare k = simp (at-point t, lt-leb 3 count h, ne-eqb count 1 k)

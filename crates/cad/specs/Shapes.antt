@@ -1,0 +1,60 @@
+-- What the calls for a shape answer: the shapes of a component, and the marks of a wire and a joint.
+use Prim.Native.Nat.{ℕ, zero, suc}
+use mathlib.Core.Bool.{Bool, _&&_, cond}
+use mathlib.Core.List.{List, [], _∷_, map}
+use lib.Dec.{leb, eqb}
+use lib.IntN.{ℤ, natAbs}
+use lib.Signed.{ltZ}
+use Rattle.orientation.specs.Orientations.{known}
+use Rattle.orientation.specs.declared.RotMirror.{RotMirror}
+use Rattle.label.specs.Labels.{heldLabel}
+use Rattle.label.specs.declared.Label.{Label}
+use Rattle.cad.specs.Answers.{Answer, drawn, no-shape, refused}
+use Rattle.draw.specs.Symbols.{whole, drawsOf}
+use Rattle.draw.specs.Transforms.{position, transformOf}
+use Rattle.draw.specs.declared.Draw.{Draw}
+use Rattle.draw.specs.declared.Draw.the-variants.{Line, Circle}
+
+-- a coordinate from -limit to limit
+abbrev pub within : ℕ → ℤ → Bool
+within limit z = leb (natAbs z) limit
+
+-- "A shape is asked for by its place in that order; past the last the reply is "no shape""
+unfoldable pub asked : ℕ → List Draw → Answer
+asked i [] = no-shape
+asked zero (d ∷ ds) = drawn d
+asked (suc i) (d ∷ ds) = asked i ds
+
+-- ", and for a bad component, checked first, it is 4, 1 or 5."
+unfoldable pub componentShape : ℕ → RotMirror → ℤ → ℤ → Label → ℕ → Bool → Bool → Answer
+componentShape kind o x y label i a b =
+    cond (leb kind 2 && known o)
+    (cond (within 5800 x && within 5800 y)
+    (cond (eqb (heldLabel label .reply) 0)
+    (asked i (map (transformOf o (position x y)) (drawsOf kind a b)))
+    (refused 5))
+    (refused 1))
+    (refused 4)
+
+-- "Wire: line, width 6; a bad wire gives 1 or 2". `line` is the y of a horizontal wire, the x of a vertical one
+unfoldable pub wireShape : Bool → ℤ → ℤ → ℤ → Answer
+wireShape vertical line start end =
+    cond (within 6000 line && (within 6000 start && within 6000 end))
+    (cond (ltZ end start)
+    (refused 2)
+    (cond vertical
+    (drawn (Line (position line start) (position line end) (whole 6)))
+    (drawn (Line (position start line) (position end line) (whole 6)))))
+    (refused 1)
+
+-- "a joint point out of range 1, before its count is looked at. Joint count 3 or more: line from the point to itself, width 40; count 1: circle, radius 10,
+-- width 1; else no shape."
+unfoldable pub junctionShape : ℤ → ℤ → ℕ → Answer
+junctionShape x y count =
+    cond (within 6000 x && within 6000 y)
+    (cond (leb 3 count)
+    (drawn (Line (position x y) (position x y) (whole 40)))
+    (cond (eqb count 1)
+    (drawn (Circle (position x y) (whole 10) (whole 1)))
+    no-shape))
+    (refused 1)

@@ -1,0 +1,154 @@
+-- From the numbers of rows back to coordinates: the pads and the box of a component over the whole numbers alone.
+use mathlib.Core.Path.{_≡_, refl, sym, ap, _∙_, subst}
+use Prim.Native.Nat.{ℕ, zero, suc}
+use native.Mathlib.Omega.{arith}
+use mathlib.Core.Bool.{Bool, true, false, _&&_, cond}
+use mathlib.Core.List.{[], _∷_, map}
+use lib.Dec.{T, leb, ltb, eqb}
+use lib.IntN.{ℤ, pos, natAbs, _+ℤ_}
+use lib.ListN.{getD}
+use mir.Syntax.{w32}
+use mir.Val.{SFits, toZ, ofZ}
+use mir.Facts.{toZ-ofZ}
+use borrow.Author.Tests.{leb-true}
+use Rattle.lists.proofs.Tests.{agree, both-l, both-r}
+use Rattle.orientation.specs.Orientations.{known}
+use Rattle.orientation.specs.declared.RotMirror.{RotMirror}
+use Rattle.edge.specs.Coordinates.{coordOf, biased, placeOf, insideOf}
+use Rattle.edge.specs.declared.Placed.{Placed}
+use Rattle.edge.specs.declared.Placed.the-variants.{Inside, Outside}
+use Rattle.edge.proofs.Places.{back, narrow-test}
+use Rattle.symbol.specs.Symbols.{Offset, off, minus, applied, movedOf, unused, padsAt, padBlock, padsFor, refusalOf, padsOf, lowAt, highAt, boundsAt, boundsFor, aabbOf, Sound}
+use Rattle.symbol.specs.declared.Point.{Point}
+use Rattle.symbol.specs.declared.PadsReply.{PadsReply}
+use Rattle.symbol.specs.declared.BoundsReply.{BoundsReply}
+use Rattle.symbol.proofs.Symbols.{refuse, tests-placeable}
+use Rattle.symbol.proofs.Exact.{near, high-near, exact}
+use Rattle.component.specs.Answers.{origin, positionOf, answer, positioned, componentPadsOf, spanned, componentBoxOf, heldOf, shownOf}
+use Rattle.component.specs.declared.Position.{Position}
+use Rattle.component.specs.declared.PadsAnswer.{PadsAnswer}
+use Rattle.component.specs.declared.BoxAnswer.{BoxAnswer}
+use Rattle.component.proofs.Order.{coord-min, coord-max}
+
+-- ---- a component's coordinate, as rows hold it
+module _ (z : ℤ) (f : SFits w32 z) (p : Placed) (e : p ≡ placeOf 5800 (toZ w32 (ofZ w32 z))) where
+  -- z comes out of its bits as it was
+  handed : p ≡ placeOf 5800 z
+  handed = e ∙ ap (placeOf 5800) (toZ-ofZ {w = w32} {z = z} f)
+
+  pub held-inside : (n : ℕ) → p ≡ Inside n → n ≡ heldOf z
+  unfolding placeOf heldOf
+  held-inside n q = go (positioned z) (sym q ∙ handed)
+    where
+      go : (b : Bool) → Inside n ≡ cond b (Inside (biased z)) Outside → n ≡ cond b (biased z) 0
+      go true h = cc
+      go false h = absurd (let y : _≡_ {A = ℕ} 0 1 = cc in omega arith)
+
+  pub held-outside : p ≡ Outside → 0 ≡ heldOf z
+  unfolding placeOf heldOf
+  held-outside q = go (positioned z) (sym q ∙ handed)
+    where
+      go : (b : Bool) → Outside ≡ cond b (Inside (biased z)) Outside → 0 ≡ cond b (biased z) 0
+      go true h = absurd (let y : _≡_ {A = ℕ} 0 1 = cc in omega arith)
+      go false h = refl
+
+held-test : (z : ℤ) → insideOf (heldOf z) ≡ positioned z
+unfolding heldOf
+held-test z = go (positioned z) refl
+  where
+    go : (b : Bool) → positioned z ≡ b → insideOf (cond b (biased z) 0) ≡ b
+    go true e = let h = leb-true (natAbs z) 5800 e in sym (narrow-test z (omega arith)) ∙ e
+    go false e = refl
+
+held-back : (z : ℤ) → T (positioned z) → coordOf (heldOf z) ≡ z
+unfolding heldOf
+held-back z t =
+    let e : positioned z ≡ true = agree (positioned z) true (λ u. tt) (λ u. t) in
+    let h = leb-true (natAbs z) 5800 e in
+    (λ i. coordOf (cond (e i) (biased z) 0)) ∙ back z (omega arith)
+
+-- ---- the answer of a call, by its reply: what is right at 0, else zeros
+by-reply : {A : Type 0} (k p : Bool) (f : ℕ → A) {right one four : A} → (T k → T p → f 0 ≡ right) → f 1 ≡ one → f 4 ≡ four → f (cond k (cond p 0 1) 4) ≡ cond k (cond p right one) four
+by-reply true true f g h i = g tt tt
+by-reply true false f g h i = h
+by-reply false p f g h i = i
+
+module _ (kind : ℕ) (o : RotMirror) (x y : ℤ) where
+  reply : cond (leb kind 2 && known o) (cond (positioned x && positioned y) 0 1) 4 ≡ refusalOf kind o (heldOf x) (heldOf y)
+  reply = refuse kind o (heldOf x) (heldOf y) (leb kind 2 && known o) (positioned x && positioned y) refl (λ i. held-test x i && held-test y i)
+
+  -- what is right where kind, orientation and position are
+  module _ (k : T (leb kind 2 && known o)) (p : T (positioned x && positioned y)) where
+    sound : Sound o (heldOf x) (heldOf y)
+    sound = tests-placeable kind o (heldOf x) (heldOf y) k (subst T (sym (λ i. held-test x i && held-test y i)) p) .sound
+
+    point : (q : Offset) → T (near q) → shownOf (movedOf o (heldOf x) (heldOf y) q) true ≡ positionOf o x y q
+    point q t =
+        let h = exact o (heldOf x) (heldOf y) sound q t in
+        λ i. record {
+          x = (h .in-x ∙ (λ j. held-back x (both-l (positioned x) (positioned y) p) j +ℤ applied o q .dx)) i;
+          y = (h .in-y ∙ (λ j. held-back y (both-r (positioned x) (positioned y) p) j +ℤ applied o q .dy)) i;
+        }
+
+-- ---- the pads
+abbrev shownPads : PadsReply → PadsAnswer
+shownPads r = record {
+  reply = r .reply;
+  points = shownOf (getD (r .pads .points) 0 unused) (ltb 0 (r .pads .count)) ∷ shownOf (getD (r .pads .points) 1 unused) (ltb 1 (r .pads .count)) ∷ shownOf (getD (r .pads .points) 2 unused) (ltb 2 (r .pads .count)) ∷ [];
+  count = r .pads .count;
+}
+
+pads-right : (kind : ℕ) (o : RotMirror) (x y : ℤ) → T (leb kind 2 && known o) → T (positioned x && positioned y)
+    → shownPads (padsFor 0 (padBlock kind o (heldOf x) (heldOf y))) ≡ answer 0 (map (positionOf o x y) (padsAt kind))
+pads-right zero o x y k p = let at = point 0 o x y k p in λ i. record { reply = 0; points = at (off (pos 0) (pos 0)) tt i ∷ origin ∷ origin ∷ []; count = 1 }
+pads-right (suc zero) o x y k p = let at = point 1 o x y k p in λ i. record { reply = 0; points = at (off (pos 0) (minus 100)) tt i ∷ at (off (minus 50) (pos 100)) tt i ∷ at (off (pos 50) (pos 100)) tt i ∷ []; count = 3 }
+pads-right (suc (suc n)) o x y k p = let at = point (suc (suc n)) o x y k p in λ i. record { reply = 0; points = at (off (pos 0) (minus 100)) tt i ∷ origin ∷ origin ∷ []; count = 1 }
+
+-- ---- the box
+abbrev shownBox : BoundsReply → BoxAnswer
+shownBox r = record { reply = r .reply; low = shownOf (r .bounds .low) (eqb (r .reply) 0); high = shownOf (r .bounds .high) (eqb (r .reply) 0) }
+
+module _ (kind : ℕ) (o : RotMirror) (x y : ℤ) where
+  abbrev at : Offset → Point
+  at q = movedOf o (heldOf x) (heldOf y) q
+
+  box-right : T (leb kind 2 && known o) → T (positioned x && positioned y) → shownBox (boundsFor 0 (boundsAt kind o (heldOf x) (heldOf y))) ≡ spanned (positionOf o x y (lowAt kind)) (positionOf o x y (highAt kind))
+  box-right k p =
+      (λ i. record {
+        reply = 0;
+        low = record { x = coord-min (at (lowAt kind) .x) (at (highAt kind) .x) i; y = coord-min (at (lowAt kind) .y) (at (highAt kind) .y) i };
+        high = record { x = coord-max (at (lowAt kind) .x) (at (highAt kind) .x) i; y = coord-max (at (lowAt kind) .y) (at (highAt kind) .y) i };
+      })
+      ∙ (λ i. spanned (point kind o x y k p (lowAt kind) tt i) (point kind o x y k p (highAt kind) (high-near kind) i))
+
+  -- ---- the calls over the numbers of rows, shown
+  pads-shown : shownPads (padsOf kind o (heldOf x) (heldOf y)) ≡ componentPadsOf kind o x y
+  unfolding padsOf componentPadsOf
+  pads-shown =
+      let f : ℕ → PadsAnswer = λ n. shownPads (padsFor n (padBlock kind o (heldOf x) (heldOf y))) in
+      ap f (sym (reply kind o x y)) ∙ by-reply (leb kind 2 && known o) (positioned x && positioned y) f (pads-right kind o x y) refl refl
+
+  box-shown : shownBox (aabbOf kind o (heldOf x) (heldOf y)) ≡ componentBoxOf kind o x y
+  unfolding aabbOf componentBoxOf
+  box-shown =
+      let f : ℕ → BoxAnswer = λ n. shownBox (boundsFor n (boundsAt kind o (heldOf x) (heldOf y))) in
+      ap f (sym (reply kind o x y)) ∙ by-reply (leb kind 2 && known o) (positioned x && positioned y) f box-right refl refl
+
+  -- ---- what `component_pads` and `component_box` return, by what their calls ensure
+  module _ (f : SFits w32 x) (g : SFits w32 y) (m n : ℕ) (em : m ≡ heldOf (toZ w32 (ofZ w32 x))) (en : n ≡ heldOf (toZ w32 (ofZ w32 y))) where
+    is-x : m ≡ heldOf x
+    is-x = em ∙ ap heldOf (toZ-ofZ {w = w32} {z = x} f)
+
+    is-y : n ≡ heldOf y
+    is-y = en ∙ ap heldOf (toZ-ofZ {w = w32} {z = y} g)
+
+    pub pads-answered : (r : PadsReply) (p q s : Position) → r ≡ padsOf kind o m n
+        → p ≡ shownOf (getD (r .pads .points) 0 unused) (ltb 0 (r .pads .count)) → q ≡ shownOf (getD (r .pads .points) 1 unused) (ltb 1 (r .pads .count)) → s ≡ shownOf (getD (r .pads .points) 2 unused) (ltb 2 (r .pads .count))
+        → _≡_ {A = PadsAnswer} (record { reply = r .reply; points = p ∷ q ∷ s ∷ []; count = r .pads .count }) (componentPadsOf kind o x y)
+    pads-answered r p q s er ep eq es =
+        (λ i. record { reply = r .reply; points = ep i ∷ eq i ∷ es i ∷ []; count = r .pads .count }) ∙ ap shownPads (er ∙ (λ i. padsOf kind o (is-x i) (is-y i))) ∙ pads-shown
+
+    pub box-answered : (r : BoundsReply) (p q : Position) → r ≡ aabbOf kind o m n
+        → p ≡ shownOf (r .bounds .low) (eqb (r .reply) 0) → q ≡ shownOf (r .bounds .high) (eqb (r .reply) 0)
+        → _≡_ {A = BoxAnswer} (record { reply = r .reply; low = p; high = q }) (componentBoxOf kind o x y)
+    box-answered r p q er ep eq = (λ i. record { reply = r .reply; low = ep i; high = eq i }) ∙ ap shownBox (er ∙ (λ i. aabbOf kind o (is-x i) (is-y i))) ∙ box-shown

@@ -1,0 +1,62 @@
+-- The pads and the box of a component as document 01 has them, over whole numbers alone.
+use Prim.Native.Nat.{ℕ}
+use mathlib.Core.Bool.{Bool, _&&_, cond}
+use mathlib.Core.List.{List, [], _∷_, _++_, map}
+use lib.Dec.{leb}
+use lib.IntN.{ℤ, pos, natAbs, _+ℤ_}
+use lib.Signed.{leZ}
+use lib.ListN.{length, take}
+use Rattle.orientation.specs.Orientations.{known}
+use Rattle.orientation.specs.declared.RotMirror.{RotMirror}
+use Rattle.edge.specs.Coordinates.{coordOf, biased}
+use Rattle.symbol.specs.declared.Point.{Point}
+use Rattle.symbol.specs.Symbols.{Offset, applied, padsAt, lowAt, highAt}
+use Rattle.component.specs.declared.Position.{Position}
+use Rattle.component.specs.declared.PadsAnswer.{PadsAnswer}
+use Rattle.component.specs.declared.BoxAnswer.{BoxAnswer}
+
+abbrev pub origin : Position
+origin = record { x = pos 0; y = pos 0 }
+
+-- a point of a symbol at (x, y)
+abbrev pub positionOf : RotMirror → ℤ → ℤ → Offset → Position
+positionOf o x y q = record { x = x +ℤ applied o q .dx; y = y +ℤ applied o q .dy }
+
+-- "a block of three points with a count, unused points (0,0)"
+abbrev pub answer : ℕ → List Position → PadsAnswer
+answer n ps = record { reply = n; points = take 3 (ps ++ (origin ∷ origin ∷ origin ∷ [])); count = length ps }
+
+-- "Component position: −5,800 to 5,800."
+abbrev pub positioned : ℤ → Bool
+positioned z = leb (natAbs z) 5800
+
+-- "A box, pads or a turn asked of a bad kind, orientation or position get 4 or 1, in that order, and zeros for every number."
+unfoldable pub componentPadsOf : ℕ → RotMirror → ℤ → ℤ → PadsAnswer
+componentPadsOf kind o x y = cond (leb kind 2 && known o) (cond (positioned x && positioned y) (answer 0 (map (positionOf o x y) (padsAt kind))) (answer 1 [])) (answer 4 [])
+
+-- the lesser and the greater of two whole numbers
+abbrev pub minZ : ℤ → ℤ → ℤ
+minZ z w = cond (leZ z w) z w
+
+abbrev pub maxZ : ℤ → ℤ → ℤ
+maxZ z w = cond (leZ z w) w z
+
+-- the smallest box that has both points
+abbrev pub spanned : Position → Position → BoxAnswer
+spanned p q = record { reply = 0; low = record { x = minZ (p .x) (q .x); y = minZ (p .y) (q .y) }; high = record { x = maxZ (p .x) (q .x); y = maxZ (p .y) (q .y) } }
+
+abbrev pub noBox : ℕ → BoxAnswer
+noBox n = record { reply = n; low = origin; high = origin }
+
+unfoldable pub componentBoxOf : ℕ → RotMirror → ℤ → ℤ → BoxAnswer
+componentBoxOf kind o x y = cond (leb kind 2 && known o) (cond (positioned x && positioned y) (spanned (positionOf o x y (lowAt kind)) (positionOf o x y (highAt kind))) (noBox 1)) (noBox 4)
+
+-- ---- what the functions below the calls return
+
+-- a component's coordinate as rows hold it, or 0, which is no position
+unfoldable pub heldOf : ℤ → ℕ
+heldOf z = cond (positioned z) (biased z) 0
+
+-- the coordinates of a point that is used, else zeros
+abbrev pub shownOf : Point → Bool → Position
+shownOf p used = cond used (record { x = coordOf (p .x); y = coordOf (p .y) }) origin

@@ -1,0 +1,66 @@
+-- What is drawn of a symbol has its coordinates within 1/4,096 of the exact sums, whole where those are whole, and never -0; radius and width are the symbol's.
+use Prim.Native.Nat.{ℕ, zero, suc, _≤_}
+use native.Mathlib.Omega.{arith}
+use mathlib.Core.Bool.{Bool, true, false, _&&_}
+use lib.Dec.{T}
+use lib.IntN.{ℤ, natAbs}
+use lib.Ieee.{ofInt, ofBits}
+use Rattle.lists.specs.Lists.{_∈_, all}
+use Rattle.lists.proofs.Tests.{test, holds, both-l, both-r}
+use Rattle.lists.proofs.Lists.{all-reads}
+use Rattle.orientation.specs.Orientations.{known}
+use Rattle.orientation.specs.declared.RotMirror.{RotMirror}
+use Rattle.orientation.proofs.Eight.{of-eight}
+use Rattle.float.specs.Drawn.{Row, plus-x, minus-x, plus-y, minus-y}
+use Rattle.float.specs.Close.{tame}
+use Rattle.float.proofs.Drawn.{drawn-close}
+use Rattle.draw.specs.Symbols.{whole, minus, bits, powerDraws, contactStatic, movingContact, coilStatic, innerCircle, drawsOf}
+use Rattle.draw.specs.Transforms.{position, movedOf, transformOf}
+use Rattle.draw.specs.Bound.{ClosePoint, CloseDraw, line, circle}
+use Rattle.draw.specs.declared.Vector2.{Vector2}
+use Rattle.draw.specs.declared.Draw.{Draw}
+use Rattle.draw.specs.declared.Draw.the-variants.{Line, Circle}
+
+-- ---- each number of a symbol is one that the bound holds for: antt computes it
+
+abbrev tamePoint : Vector2 → Bool
+tamePoint p = tame (p .x) && tame (p .y)
+
+abbrev tameDraw : Draw → Bool
+tameDraw (Line p q width) = tamePoint p && tamePoint q
+tameDraw (Circle p radius width) = tamePoint p
+
+draws-tame : (kind : ℕ) (a b : Bool) → T (all tameDraw (drawsOf kind a b))
+unfolding all tame drawsOf powerDraws contactStatic movingContact coilStatic innerCircle whole minus bits ofInt ofBits
+draws-tame zero a b = tt
+draws-tame (suc zero) true true = tt
+draws-tame (suc zero) true false = tt
+draws-tame (suc zero) false true = tt
+draws-tame (suc zero) false false = tt
+draws-tame (suc (suc n)) true b = tt
+draws-tame (suc (suc n)) false b = tt
+
+-- ---- the rows of the eight
+
+abbrev Rows : RotMirror → Type 0
+Rows o = Row (o .0) (o .1) × Row (o .2) (o .3)
+
+known-rows : (o : RotMirror) → T (known o) → Rows o
+known-rows o t =
+    of-eight Rows
+    ((plus-x, plus-y), ((minus-y, plus-x), ((minus-x, minus-y), ((plus-y, minus-x), ((minus-x, plus-y), ((minus-y, minus-x), ((plus-x, minus-y), ((plus-y, plus-x), tt)))))))) o t
+
+module _ (o : RotMirror) (x y : ℤ) (t : T (known o)) (hx : natAbs x ≤ 5800) (hy : natAbs y ≤ 5800) where
+  point-close : (p : Vector2) → T (tamePoint p) → ClosePoint o x y p (movedOf o (position x y) p)
+  point-close p h =
+      let tx = both-l (tame (p .x)) (tame (p .y)) h in
+      let ty = both-r (tame (p .x)) (tame (p .y)) h in
+      let r = known-rows o t in
+      record { in-x = drawn-close (p .x) (p .y) x (r .0) tx ty (omega arith); in-y = drawn-close (p .x) (p .y) y (r .1) tx ty (omega arith) }
+
+  draw-close : (d : Draw) → T (tameDraw d) → CloseDraw o x y d (transformOf o (position x y) d)
+  draw-close (Line p q width) h = line (point-close p (both-l (tamePoint p) (tamePoint q) h)) (point-close q (both-r (tamePoint p) (tamePoint q) h))
+  draw-close (Circle p radius width) h = circle (point-close p h)
+
+  pub transform-close : (kind : ℕ) (a b : Bool) (d : Draw) → d ∈ drawsOf kind a b → CloseDraw o x y d (transformOf o (position x y) d)
+  transform-close kind a b d m = draw-close d (holds (all-reads (λ e. test (tameDraw e)) (drawsOf kind a b)) (draws-tame kind a b) d m)

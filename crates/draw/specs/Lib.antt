@@ -1,0 +1,3 @@
+pub mod Symbols
+pub mod Transforms
+pub mod Bound

@@ -1,0 +1,30 @@
+// A new wire.
+ghost use mathlib.Core.Path.{_≡_};
+ghost use Rattle.sheet.specs.Edits.{wire};
+ghost use Rattle.joints.specs.Tables.{sheetOf, Sound};
+ghost use Rattle.edits.specs.Making.{quiet, made};
+use crate::Made;
+use crate::answer;
+use parts::pads::all_pads;
+use sheet::Components;
+use sheet::Wire;
+use sheet::Wires;
+use wires::Grown;
+use wires::draw::add_wire;
+
+// The new wire among the others; one of zero length changes nothing.
+pub fn draw(ws: Wires, cs: Components, n: Wire) -> Made
+    requires { ⌜ Sound ws cs ⌝ }
+    ensures { λ r. ⌜ r ≡ made (quiet (wire n (sheetOf ws cs))) ⌝ }
+{
+    if n.start == n.end {
+        let g = Grown {
+            full: false,
+            table: ws,
+        };
+        return answer(g, cs, 0, 0);
+    }
+    let pads = all_pads(cs);
+    let g = add_wire(ws, n, pads);
+    answer(g, cs, 0, 0)
+}

@@ -1,0 +1,74 @@
+-- The net numbers of a sheet are those of its nets: one number exactly on one net, 0 exactly when fed, given in the order of meeting.
+use Prim.Native.Nat.{ℕ, suc, _<_, _≤_}
+use native.Mathlib.Omega.{arith}
+use mathlib.Core.List.{List, map, Memᴰ·of-map as ∈-of-map, Memᴰ·append-left as ∈-left, Memᴰ·append-right as ∈-right, List·Memᴰ·head as ∈-head, List·Memᴰ·tail as ∈-tail}
+use mathlib.Core.Path.{_≡_, refl, sym, ap, subst, _∙_}
+use lib.ListN.{length, getD, length-map}
+use Rattle.lists.specs.Lists.{_∈_, keep, gather}
+use Rattle.lists.specs.Places.{span}
+use Rattle.lists.proofs.Lists.{gather-in, in-gather, keep-old}
+use Rattle.symbol.specs.declared.Point.{Point}
+use Rattle.sheet.specs.declared.Wire.{Wire}
+use Rattle.sheet.specs.declared.Joint.{Joint}
+use Rattle.sheet.specs.Lines.{tip, tips, low, high, ends}
+use Rattle.sheet.specs.Joints.{place}
+use Rattle.sheet.specs.Parts.{pads, padsOf}
+use Rattle.sheet.specs.Drawings.{Sheet, marksOf, joints, zeroJoint}
+use Rattle.sheet.proofs.Points.{same-reads}
+use Rattle.sheet.proofs.JointRows.{joints-listed}
+use Rattle.nets.specs.Nets.{Numbered}
+use Rattle.nets.specs.Numbers.{byNumber, numbersOf}
+use Rattle.nets.proofs.Told.{OwnNumbers, numbers-right, numbers-low}
+use Rattle.net_numbers.specs.Netted.{endsOf, isPower, netOn, numberIn, netNumbers}
+use Rattle.net_numbers.proofs.Finding.{span-found}
+
+-- a point with a joint has that joint's row for its number
+pub number-found : (js : List Joint) (p : Point) → (j : Joint) × j ∈ js × (place j ≡ p) → (m : ℕ) × (numberIn js p ≡ suc m) × (m < length js) × (p ≡ place (getD js m zeroJoint))
+unfolding numberIn
+number-found js p t =
+    let r = span-found (λ j. same-reads p (place j)) zeroJoint (t .1) (sym (t .2)) in
+    (_, refl, r .0, r .1)
+
+module _ (s : Sheet) where
+  all-joints : (p : Point) → p ∈ marksOf s → (j : Joint) × j ∈ joints s × (place j ≡ p)
+  unfolding joints
+  all-joints = joints-listed (marksOf s) .all
+
+  pub pad-marked : (p : Point) → p ∈ padsOf (s .parts) → p ∈ marksOf s
+  pad-marked p m = ∈-right (ends (s .wires)) m
+
+  pub power-pad : (p : Point) → p ∈ padsOf (keep isPower (s .parts)) → p ∈ padsOf (s .parts)
+  power-pad p m = let r = gather-in pads (keep isPower (s .parts)) m in in-gather pads (keep-old isPower (s .parts) (r .1)) (r .2)
+
+  pub tips-marked : (w : Wire) → w ∈ s .wires → tip low w ∈ marksOf s × tip high w ∈ marksOf s
+  unfolding ends
+  tips-marked w m = (∈-left _ (in-gather tips m (∈-head refl)), ∈-left _ (in-gather tips m (∈-tail (∈-head refl))))
+
+  own : (p q : Point) → p ∈ marksOf s → q ∈ marksOf s → numberIn (joints s) p ≡ numberIn (joints s) q → p ≡ q
+  own p q m n e =
+      let a = number-found (joints s) p (all-joints p m) in
+      let b = number-found (joints s) q (all-joints q n) in
+      let i : a .0 ≡ b .0 = omega (arith, a .1, b .1, e) in
+      a .3 ∙ ap (λ k. place (getD (joints s) k zeroJoint)) i ∙ sym (b .3)
+
+  own-numbers : OwnNumbers (λ p. p ∈ marksOf s) (numberIn (joints s)) (netOn s) (padsOf (s .parts))
+  unfolding numberIn
+  own-numbers = record {
+    own = own;
+    above = λ p m. omega arith;
+    ends = λ l m. let r = ∈-of-map endsOf (s .wires) m in subst (λ k. k .0 ∈ marksOf s × k .1 ∈ marksOf s) (r .2) (tips-marked (r .0) (r .1));
+    powered = λ p m. pad-marked p (power-pad p m);
+    padded = pad-marked;
+  }
+
+  -- "Going through the components in row order and each one's pads in symbol order, each net not met before gets the next number from 1."
+  pub numbered : Numbered (netOn s) (padsOf (s .parts)) (netNumbers s)
+  unfolding netNumbers
+  numbered = numbers-right own-numbers
+
+  -- no number is above the number of pads
+  pub net-numbers-low : (i : ℕ) → getD (netNumbers s) i 0 ≤ length (padsOf (s .parts))
+  unfolding netNumbers
+  net-numbers-low i =
+      let ns : List ℕ = map (numberIn (joints s)) (padsOf (s .parts)) in
+      omega (arith, numbers-low (byNumber (numberIn (joints s)) (netOn s)) ns i, length-map (padsOf (s .parts)) (numberIn (joints s)))

@@ -1,0 +1,2 @@
+pub mod Netted
+pub mod Found

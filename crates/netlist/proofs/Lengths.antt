@@ -1,0 +1,98 @@
+-- 7,936 bytes always suffice: 62 for each of 128 components, where labels have at most 16 bytes and numbers three digits.
+use mathlib.Core.Path.{_≡_, refl, ap, subst, _∙_}
+use mathlib.Core.Bool.{Bool, true, false, not, cond}
+use mathlib.Core.List.{List, [], _∷_, _++_, map, Memᴰ·of-map as ∈-of-map, Memᴰ·append-left as ∈-left, List·Memᴰ·head as ∈-head, List·Memᴰ·tail as ∈-tail}
+use Prim.Native.Nat.{ℕ, zero, suc, _+_, _*_, _≤_, _<_}
+use native.Mathlib.Omega.{arith}
+use lib.Dec.{eqb}
+use lib.ListN.{length, take, drop, length-append, length-map, take-append-drop}
+use Rattle.lists.specs.Lists.{_∈_}
+use Rattle.lists.proofs.Tests.{Reads, pass, fail, eqb-reads}
+use Rattle.lists.proofs.Lists.{length-gather}
+use Rattle.label.specs.Labels.{takeWhile, labelPart}
+use Rattle.sheet.specs.declared.Component.{Component}
+use Rattle.sheet.specs.declared.Drawing.{Drawing}
+use Rattle.sheet.specs.Parts.{pads}
+use Rattle.sheet.specs.Drawings.{Sheet, Sized, listsOf}
+use Rattle.sheet.specs.Wiring.{Room}
+use Rattle.sheet.specs.Rules.{Lawful}
+use Rattle.sheet.proofs.Parts.{length-pads}
+use Rattle.sheet.proofs.Rules.{lawful-room}
+use Rattle.text.specs.Text.{decimalOf}
+use Rattle.text.proofs.Decimals.{length-decimal}
+use Rattle.net_numbers.specs.Netted.{netNumbers}
+use Rattle.net_numbers.proofs.Numbered.{net-numbers-low}
+use Rattle.netlist.specs.Listing.{switch, relay, Entry, entry, padsIn, linesOf, linesIn, linesFrom, listWith, nth, listOf}
+use Rattle.netlist.proofs.Spelling.{length-net, length-pin, length-relay, length-switch}
+
+lines-short : (k : ℕ) (l : List ℕ) (a b c : ℕ) → length l ≤ 16 → length (decimalOf a) ≤ 3 → length (decimalOf b) ≤ 3 → length (decimalOf c) ≤ 3 → length (linesOf k l a b c) ≤ 62
+unfolding linesOf
+lines-short zero l a b c h i j k = omega arith
+lines-short (suc zero) l a b c h i j k = omega (
+  arith,
+  length-append (switch l 65 a b) (switch l 66 a c),
+  length-switch l 65 a b,
+  length-switch l 66 a c,
+  length-pin l 65,
+  length-pin l 66,
+  length-net a,
+  length-net b,
+  length-net c,
+)
+lines-short (suc (suc zero)) l a b c h i j k = omega (arith, length-relay l a, length-pin l 65, length-pin l 66, length-net a)
+lines-short (suc (suc (suc n))) l a b c h i j k = omega arith
+
+-- a component has lines of one kind only
+one-kind : (k : ℕ) (ls : List ℕ) → length ls ≤ 62 → {t u : Bool} → Reads (k ≡ 2) t → Reads (k ≡ 1) u → length (cond t ls []) + length (cond u ls []) ≤ 62
+one-kind k ls h (pass p) (pass q) = absurd (omega arith)
+one-kind k ls h (pass p) (fail q) = omega arith
+one-kind k ls h (fail p) (pass q) = omega arith
+one-kind k ls h (fail p) (fail q) = omega arith
+
+-- the coils and the contacts
+pub length-list : (net : ℕ → ℕ) (es : List Entry) → length (listWith net es) ≡ length (linesFrom net 2 0 es) + length (linesFrom net 1 0 es)
+unfolding listWith
+length-list net es = length-append (linesFrom net 2 0 es) (linesFrom net 1 0 es)
+
+module _ (net : ℕ → ℕ) (digits : (j : ℕ) → length (decimalOf (net j)) ≤ 3) where
+  both-short : (es : List Entry) (i : ℕ) → ((e : Entry) → e ∈ es → length (e .label) ≤ 16) → length (linesFrom net 2 i es) + length (linesFrom net 1 i es) ≤ 62 * length es
+  unfolding linesFrom linesIn
+  both-short [] i h = omega arith
+  both-short (x ∷ es) i h =
+      let ls : List ℕ = linesOf (x .kind) (x .label) (net i) (net (i + 1)) (net (i + 2)) in
+      let j : ℕ = i + padsIn (x .kind) in
+      let one = one-kind (x .kind) ls (lines-short (x .kind) (x .label) (net i) (net (i + 1)) (net (i + 2)) (h x (∈-head refl)) (digits i) (digits (i + 1)) (digits (i + 2))) (eqb-reads (x .kind) 2) (eqb-reads (x .kind) 1) in
+      omega (
+        arith,
+        one,
+        both-short es j (λ e m. h e (∈-tail m)),
+        length-append (cond (eqb (x .kind) 2) ls []) (linesFrom net 2 j es),
+        length-append (cond (eqb (x .kind) 1) ls []) (linesFrom net 1 j es),
+      )
+
+  list-short : (es : List Entry) → ((e : Entry) → e ∈ es → length (e .label) ≤ 16) → length es ≤ 128 → length (listWith net es) ≤ 7936
+  list-short es h n = omega (arith, both-short es 0 h, length-list net es)
+
+label-short : (bs : List ℕ) → length (labelPart bs) ≤ length bs
+unfolding labelPart
+label-short [] = omega arith
+label-short (b ∷ bs) = go (eqb b 0) (label-short bs)
+  where
+    go : (t : Bool) → length (takeWhile (λ c. not (eqb c 0)) bs) ≤ length bs → length (cond (not t) (b ∷ takeWhile (λ c. not (eqb c 0)) bs) []) ≤ suc (length bs)
+    go true h = omega arith
+    go false h = omega arith
+
+-- ---- for lists
+in-take : {A : Type 0} (xs : List A) (n : ℕ) {x : A} → x ∈ take n xs → x ∈ xs
+in-take xs n {x} m = subst (λ l. x ∈ l) (take-append-drop n xs) (∈-left (drop n xs) m)
+
+-- "7,936 bytes always suffice"
+pub list-room : {d : Drawing} → Lawful d → Sized d → length (listOf (listsOf d)) ≤ 7936
+unfolding listOf
+list-room {d} l z =
+    let s = listsOf d in
+    let room = lawful-room l in
+    let low : (j : ℕ) → nth (netNumbers s) j < 1000 = λ j. omega (arith, net-numbers-low s j, length-gather pads length-pads (s .parts), room .parts) in
+    list-short (nth (netNumbers s)) (λ j. length-decimal 2 (nth (netNumbers s) j) (low j)) (map entry (s .parts))
+    (λ e m. let r = ∈-of-map entry (s .parts) m in subst (λ (x : Entry). length (x .label) ≤ 16) (r .2) (omega (arith, label-short (r .0 .label), z .labels (r .0) (in-take (d .components .rows) (d .components .count) (r .1)))))
+    (omega (arith, length-map (s .parts) entry, room .parts))

@@ -1,0 +1,8 @@
+-- Laws on the wiring list. `Demand3` has the theorem.
+pub mod Spelling
+pub mod Told
+pub mod Sheets
+pub mod Demand3
+pub mod Lengths
+mod Rows
+mod Buffers

@@ -1,0 +1,82 @@
+-- The wiring list, byte by byte (document 01, "Nets and the list").
+use Prim.Native.Nat.{ℕ, zero, suc, _+_}
+use mathlib.Core.Bool.{cond}
+use mathlib.Core.List.{List, [], _∷_, _++_, map}
+use lib.Dec.{eqb}
+use lib.ListN.{length, getD}
+use Rattle.lists.specs.Lists.{keep}
+use Rattle.label.specs.Labels.{labelPart}
+use Rattle.symbol.specs.Symbols.{padsAt}
+use Rattle.sheet.specs.declared.Component.{Component}
+use Rattle.sheet.specs.declared.Joint.{Joint}
+use Rattle.sheet.specs.Drawings.{Sheet, joints}
+use Rattle.text.specs.Text.{decimalOf}
+use Rattle.net_numbers.specs.Netted.{netNumbers}
+
+-- ---- the lines: `R`, `S`, `N`, `.`, `A`, `B`, space and newline are the bytes 82, 83, 78, 46, 65, 66, 32 and 10
+
+-- ` N<net>`
+unfoldable pub netWord : ℕ → List ℕ
+netWord net = 32 ∷ 78 ∷ decimalOf net
+
+-- ` <label>.<pin>`
+unfoldable pub pinWord : List ℕ → ℕ → List ℕ
+pinWord label pin = 32 ∷ (label ++ (46 ∷ pin ∷ []))
+
+-- `R N<net> <label>.A <label>.B`
+unfoldable pub relay : List ℕ → ℕ → List ℕ
+relay label net = 82 ∷ (netWord net ++ (pinWord label 65 ++ (pinWord label 66 ++ (10 ∷ []))))
+
+-- `S <label>.<pin> N<C> N<net>`
+unfoldable pub switch : List ℕ → ℕ → ℕ → ℕ → List ℕ
+switch label pin c net = 83 ∷ (pinWord label pin ++ (netWord c ++ (netWord net ++ (10 ∷ []))))
+
+-- ---- a component in the list
+
+-- what the list tells of a component besides its nets: "The label comes back as the part before the first zero byte"
+pub record Entry : Type 0 where
+  pub kind : ℕ
+  pub label : List ℕ
+
+abbrev pub entry : Component → Entry
+entry c = record { kind = c .kind; label = labelPart (c .label) }
+
+-- how many pads a kind has
+abbrev pub padsIn : ℕ → ℕ
+padsIn kind = length (padsAt kind)
+
+-- the lines of a component whose pads, in symbol order, are on the nets n, n′ and n″: Power (kind 0) has none; a contact (1)
+-- `S <label>.A N<C> N<A>` and `S <label>.B N<C> N<B>`; a coil (2) `R N<net> <label>.A <label>.B`
+unfoldable pub linesOf : ℕ → List ℕ → ℕ → ℕ → ℕ → List ℕ
+linesOf zero label n n′ n″ = []
+linesOf (suc zero) label n n′ n″ = switch label 65 n n′ ++ switch label 66 n n″
+linesOf (suc (suc zero)) label n n′ n″ = relay label n
+linesOf (suc (suc (suc k))) label n n′ n″ = []
+
+-- a component's part in the lines of one kind
+unfoldable pub linesIn : ℕ → Entry → ℕ → ℕ → ℕ → List ℕ
+linesIn kind e n n′ n″ = cond (eqb (e .kind) kind) (linesOf (e .kind) (e .label) n n′ n″) []
+
+-- the lines of all components of one kind, in row order; the first pad of the first component is pad i, and pad j is on net `net j`
+unfoldable pub linesFrom : (ℕ → ℕ) → ℕ → ℕ → List Entry → List ℕ
+linesFrom net kind i [] = []
+linesFrom net kind i (e ∷ es) = linesIn kind e (net i) (net (i + 1)) (net (i + 2)) ++ linesFrom net kind (i + padsIn (e .kind)) es
+
+-- "All coils in row order", "then per contact"
+unfoldable pub listWith : (ℕ → ℕ) → List Entry → List ℕ
+listWith net es = linesFrom net 2 0 es ++ linesFrom net 1 0 es
+
+-- pad j is on the j-th net of a row of numbers
+abbrev pub nth : List ℕ → ℕ → ℕ
+nth ns j = getD ns j 0
+
+-- the list of a sheet
+unfoldable pub listOf : Sheet → List ℕ
+listOf s = listWith (nth (netNumbers s)) (map entry (s .parts))
+
+-- "a loose point is a joint whose count is 1"
+unfoldable pub looseIn : List Joint → ℕ
+looseIn js = length (keep (λ j. eqb (j .count) 1) js)
+
+unfoldable pub looseOf : Sheet → ℕ
+looseOf s = looseIn (joints s)

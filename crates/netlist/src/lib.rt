@@ -1,0 +1,82 @@
+// The wiring list of a drawing, as bytes in a lent buffer, and the number of its loose points.
+mod lines;
+
+ghost use mathlib.Core.Path.{_≡_};
+ghost use mathlib.Core.List.{map};
+ghost use Prim.Native.Nat.{_≤_};
+ghost use lib.ListN.{length};
+ghost use Rattle.sheet.specs.Drawings.{listsOf, componentRows, jointRows};
+ghost use Rattle.sheet.specs.Rules.{Lawful};
+ghost use Rattle.text.specs.Text.{Put, Room};
+ghost use Rattle.netlist.specs.Listing.{entry, nth, listWith, listOf, looseIn, looseOf};
+ghost use Rattle.netlist.specs.Answers.{answerOf, bufferOf};
+use lines::put_lines;
+use net_numbers::pad_numbers;
+use sheet::Components;
+use sheet::Drawing;
+use sheet::Joints;
+
+// A reply, and how many bytes of the lent buffer are the list.
+pub struct Listed {
+    pub reply: u8,
+    pub length: usize,
+}
+
+// The whole list, of which what fits is written: the coils, then the contacts.
+fn put_list(out: &mut [u8], cs: Components, numbers: [u16; 384]) -> usize
+    requires { ⌜ cs .count ≤ 128 ⌝ ∗ ⌜ Room 0 (listWith (nth numbers) (map entry (componentRows cs))) ⌝ }
+    ensures { λ r. ⌜ Put (now (out .entry)) 0 (listWith (nth numbers) (map entry (componentRows cs))) (now (out .exit)) r ⌝ }
+{
+    let p = put_lines(out, 0, cs, numbers, 2);
+    put_lines(out, p, cs, numbers, 1)
+}
+
+// The list in front of the lent buffer, if the buffer has room for it. A first run over a byte of our own tells the length.
+pub fn write_list_on(d: Drawing, out: &mut [u8]) -> Listed
+    requires { ⌜ Lawful d ⌝ }
+    ensures told { λ r. ⌜ r ≡ answerOf (listOf (listsOf d)) (length (now (out .entry))) ⌝ }
+    ensures written { λ _. ⌜ now (out .exit) ≡ bufferOf (listOf (listsOf d)) (now (out .entry)) ⌝ }
+{
+    let numbers = pad_numbers(d);
+    let cs = d.components;
+    let mut own = [0u8; 1];
+    let n = put_list(&mut own, cs, numbers);
+    if n <= out.len() {
+        put_list(out, cs, numbers);
+        return Listed {
+            reply: 0,
+            length: n,
+        };
+    }
+    Listed {
+        reply: 8,
+        length: 0,
+    }
+}
+
+// How many joints have the count 1.
+fn count_loose(js: Joints) -> u32
+    requires { ⌜ js .count ≤ 1408 ⌝ }
+    ensures { λ r. ⌜ r ≡ looseIn (jointRows js) ⌝ }
+{
+    let n = js.count;
+    let mut loose: u32 = 0;
+    let mut i = 0;
+    while i < n {
+        let j = js.rows[i];
+        if j.count == 1 {
+            loose += 1;
+        }
+        i += 1;
+    }
+    loose
+}
+
+// The number of loose points of a drawing.
+pub fn loose_on(d: Drawing) -> u32
+    requires { ⌜ Lawful d ⌝ }
+    ensures { λ r. ⌜ r ≡ looseOf (listsOf d) ⌝ }
+{
+    let js = d.joints;
+    count_loose(js)
+}

@@ -1,0 +1,171 @@
+// Prints the turns, boxes and pads of all kinds and orientations at a few positions, and refusals; held to what the Rust prints.
+use component::BoxAnswer;
+use component::PadsAnswer;
+use component::Position;
+use edge::Placed;
+use libc::STDOUT_FILENO;
+use orientation::Number;
+use orientation::RotMirror;
+use orientation::Turned;
+
+fn put(text: &[u8]) {
+    io::write_all(STDOUT_FILENO, text);
+}
+
+// A space and a number.
+fn put_number(n: u16) {
+    put(b" ");
+    io::print_decimal(STDOUT_FILENO, n as u64);
+}
+
+// A space and a coordinate; one outside the range of wire ends as *.
+fn put_coordinate(x: i32) {
+    match edge::place(x) {
+        Placed::Inside(n) => {
+            if n < 6000 {
+                put(b" -");
+                io::print_decimal(STDOUT_FILENO, (6000 - n) as u64);
+            } else {
+                put_number(n - 6000);
+            }
+        }
+        Placed::Outside => put(b" *"),
+    }
+}
+
+fn put_point(p: Position) {
+    put_coordinate(p.x);
+    put_coordinate(p.y);
+}
+
+// A space and the number of what a turn gives.
+fn put_turned(t: Turned) {
+    let o = t.turn;
+    match orientation::number_of(o) {
+        Number::At(n) => put_number(n as u16),
+        Number::Unknown => put(b" *"),
+    }
+}
+
+// The orientation of a number; zeros, which are none of the eight, where there is none.
+fn turn_of(orient: u8) -> RotMirror {
+    let t = orientation::numbered(orient);
+    t.turn
+}
+
+fn put_turns(orient: u8) {
+    let o = turn_of(orient);
+    put(b"T");
+    put_number(orient as u16);
+    put(b":");
+    put_turned(orientation::rotate_r(o));
+    put_turned(orientation::rotate_l(o));
+    put_turned(orientation::mirror(o));
+    put(b"\n");
+}
+
+fn put_kind(kind: u8) {
+    put(b"K");
+    put_number(kind as u16);
+    put(b":");
+    put_number(if symbol::can_turn(kind) { 1 } else { 0 });
+    put(b"\n");
+}
+
+fn put_asked(kind: u8, orient: u8, x: i32, y: i32) {
+    put_number(kind as u16);
+    put_number(orient as u16);
+    put_coordinate(x);
+    put_coordinate(y);
+    put(b":");
+}
+
+fn put_box(b: BoxAnswer) {
+    if b.reply == 0 {
+        put_point(b.low);
+        put_point(b.high);
+    } else {
+        put_number(b.reply as u16);
+    }
+    put(b"\n");
+}
+
+fn put_pads(p: PadsAnswer) {
+    let points = p.points;
+    if p.reply == 0 {
+        put(b" ");
+        io::print_decimal(STDOUT_FILENO, p.count as u64);
+        if 0 < p.count {
+            put_point(points[0]);
+        }
+        if 1 < p.count {
+            put_point(points[1]);
+        }
+        if 2 < p.count {
+            put_point(points[2]);
+        }
+    } else {
+        put_number(p.reply as u16);
+    }
+    put(b"\n");
+}
+
+fn put_symbol(kind: u8, orient: u8, x: i32, y: i32) {
+    let o = turn_of(orient);
+    put(b"B");
+    put_asked(kind, orient, x, y);
+    put_box(component::component_box(kind, o, x, y));
+    put(b"P");
+    put_asked(kind, orient, x, y);
+    put_pads(component::component_pads(kind, o, x, y));
+}
+
+// A kind in all orientations at one position.
+fn put_kind_at(kind: u8, x: i32, y: i32) {
+    for orient in 0u8..8 {
+        put_symbol(kind, orient, x, y);
+    }
+}
+
+fn put_kinds_at(x: i32, y: i32) {
+    put_kind_at(0, x, y);
+    put_kind_at(1, x, y);
+    put_kind_at(2, x, y);
+}
+
+fn put_all_turns() {
+    put_turns(0);
+    put_turns(1);
+    put_turns(2);
+    put_turns(3);
+    put_turns(4);
+    put_turns(5);
+    put_turns(6);
+    put_turns(7);
+}
+
+fn put_refusals() {
+    put_symbol(3, 0, 0, 0);
+    put_symbol(0, 8, 0, 0);
+    put_symbol(1, 0, 5801, 0);
+    put_symbol(1, 0, 0, -5801);
+    let none = turn_of(9);
+    put(b"B 9 9 9999 9999:");
+    put_box(component::component_box(9, none, 9999, 9999));
+    put(b"P 9 9 9999 9999:");
+    put_pads(component::component_pads(9, none, 9999, 9999));
+}
+
+fn main() {
+    put_all_turns();
+    put_kind(0);
+    put_kind(1);
+    put_kind(2);
+    put_kinds_at(0, 0);
+    put_kinds_at(-5800, -5800);
+    put_kinds_at(5800, 5800);
+    put_kinds_at(-5800, 5800);
+    put_kinds_at(137, -4211);
+    put_kinds_at(-7, 9);
+    put_refusals();
+}

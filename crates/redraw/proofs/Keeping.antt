@@ -1,0 +1,53 @@
+-- A lawful drawing's tables can be edited, and each edit keeps its sheet good.
+use Prim.Native.Nat.{ℕ}
+use mathlib.Core.Bool.{false}
+use mathlib.Core.Path.{_≡_, subst}
+use lib.Dec.{T}
+use lib.IntN.{ℤ}
+use mir.Syntax.{w32}
+use mir.Val.{SFits, toZ, ofZ}
+use mir.Facts.{toZ-ofZ}
+use Rattle.lists.specs.Lists.{_∈_, any}
+use Rattle.lists.proofs.Tests.{passes}
+use Rattle.lists.proofs.Tables.{blank-holds}
+use Rattle.symbol.specs.declared.Point.{Point}
+use Rattle.sheet.specs.declared.Component.{Component}
+use Rattle.sheet.specs.declared.Drawing.{Drawing}
+use Rattle.sheet.specs.declared.Tally.{Tally}
+use Rattle.sheet.specs.Parts.{PartFits, touches}
+use Rattle.sheet.specs.Drawings.{Sheet, Sized, listsOf}
+use Rattle.sheet.specs.Wiring.{Good}
+use Rattle.sheet.specs.Rules.{Lawful}
+use Rattle.sheet.specs.Edits.{Outcome, place}
+use Rattle.sheet.proofs.Edits.{touched-reads, place-good, delete-good}
+use Rattle.sheet.proofs.Turn.{turn-right-good, mirror-good}
+use Rattle.joints.specs.Tables.{Sound}
+use Rattle.asked.specs.declared.AskedPointer.{AskedPointer}
+use Rattle.asked.proofs.Within.{Near}
+use Rattle.edits.specs.Making.{Pointed}
+use Rattle.redraw.specs.declared.pointer.Act.{Act}
+use Rattle.redraw.specs.declared.pointer.Act.the-variants.{Delete, TurnRight, Mirror}
+use Rattle.redraw.specs.Acts.{acted}
+use Rattle.redraw.specs.Calls.{pointed}
+
+pub lawful-sound : {d : Drawing} → Lawful d → Sized d → Sound (d .wires) (d .components)
+lawful-sound l z = record {
+  wires = blank-holds (z .wires) (l .rule1 .wire-room) (l .rule1 .wires-blank);
+  parts = blank-holds (z .components) (l .rule1 .component-room) (l .rule1 .components-blank);
+  fits = record { room = l .rule1 .component-room; each = l .rule1 .components-fit };
+}
+
+pub placed-good : (c : Component) (s : Sheet) → PartFits c → Good s → any (touches c) (s .parts) ≡ false → Good (place c s)
+placed-good c s f g e = place-good c s f g (λ b m t. subst T e (passes (touched-reads c (s .parts)) (b, m, t)))
+
+pub acted-good : (a : Act) (p : Point) (n : ℕ) (s : Sheet) → Good s → Good (acted a p n s .sheet)
+acted-good Delete p n s g = delete-good p n s g
+acted-good TurnRight p n s g = turn-right-good p n s g
+acted-good Mirror p n s g = mirror-good p n s g
+
+pub near-pointed : {a : AskedPointer} → Near a → Pointed (a .point) (a .size)
+near-pointed n = record { x = n .x; y = n .y; size = n .size }
+
+-- a pointer that is handed on comes out of its bits as it was
+pub act-handed : (d : Drawing) (x y n : ℤ) (t : Tally) (edit : Point → ℕ → Outcome) → SFits w32 x → SFits w32 y → SFits w32 n → pointed d (toZ w32 (ofZ w32 x)) (toZ w32 (ofZ w32 y)) (toZ w32 (ofZ w32 n)) t edit ≡ pointed d x y n t edit
+act-handed d x y n t edit f g h = λ i. pointed d (toZ-ofZ {w = w32} {z = x} f i) (toZ-ofZ {w = w32} {z = y} g i) (toZ-ofZ {w = w32} {z = n} h i) t edit

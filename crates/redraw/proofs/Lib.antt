@@ -1,0 +1,4 @@
+pub mod Finishing
+pub mod Asking
+pub mod Keeping
+pub mod Laws

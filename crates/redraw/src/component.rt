@@ -1,0 +1,41 @@
+// A new component.
+ghost use mathlib.Core.Path.{_≡_};
+ghost use Rattle.sheet.specs.Rules.{Lawful};
+ghost use Rattle.redraw.specs.Calls;
+use crate::Edited;
+use crate::finished;
+use crate::refused;
+use asked::asked_part;
+use edits::place::place;
+use label::Label;
+use orientation::RotMirror;
+use parts::touch::touches_any;
+use sheet::Drawing;
+use sheet::Tally;
+
+// It is refused where its box shares a point with a placed one.
+pub fn add_component_on(
+    d: Drawing,
+    kind: u8,
+    rot_mirror: RotMirror,
+    x: i32,
+    y: i32,
+    label: Label,
+    t: Tally,
+) -> Edited
+    requires { ⌜ Lawful d ⌝ }
+    ensures { λ r. ⌜ r ≡ Calls.addComponent d kind «rot_mirror» x y label t ⌝ }
+{
+    let a = asked_part(kind, rot_mirror, x, y, label);
+    if a.reply != 0 {
+        return refused(a.reply, d, t);
+    }
+    let c = a.part;
+    let ws = d.wires;
+    let cs = d.components;
+    if touches_any(cs, c) {
+        return refused(6, d, t);
+    }
+    let e = place(ws, cs, c);
+    finished(d, t, e)
+}

@@ -1,0 +1,58 @@
+// The five edits of a drawing that is known to be lawful: who holds one that these made, from the empty drawing on, need not check it.
+pub mod component;
+pub mod pointer;
+pub mod wire;
+
+ghost use mathlib.Core.Path.{_≡_};
+ghost use Rattle.sheet.specs.Edits.{Outcome};
+ghost use Rattle.joints.specs.Tables.{Sound};
+ghost use Rattle.edits.specs.Making.{made};
+ghost use Rattle.redraw.specs.Calls;
+use edits::Made;
+use joints::drawn;
+use joints::tally::tally;
+use sheet::Drawing;
+use sheet::Tally;
+
+// The reply to an edit: its number, the tally and the drawing after it, and how many contacts were hit and lost.
+pub struct Edited {
+    pub reply: u8,
+    pub tally: Tally,
+    pub drawing: Drawing,
+    pub hit: u32,
+    pub lost: u32,
+}
+
+// A refusal: the drawing and the tally received.
+pub fn refused(reply: u8, d: Drawing, t: Tally) -> Edited
+    ensures { λ r. ⌜ r ≡ Calls.refused reply d t ⌝ }
+{
+    Edited {
+        reply,
+        tally: t,
+        drawing: d,
+        hit: 0,
+        lost: 0,
+    }
+}
+
+// The drawing of what an edit made, and its tally; or 7, where there is no room.
+pub(crate) fn finished(d: Drawing, t: Tally, e: Made) -> Edited
+    requires { ⌜ Sound (e .wires) (e .parts) ⌝ }
+    ensures { λ r. ⌜ ((o : Outcome) → e ≡ made o → r ≡ Calls.edited d t o) ⌝ }
+{
+    if e.full {
+        return refused(7, d, t);
+    }
+    let ws = e.wires;
+    let cs = e.parts;
+    let drawing = drawn(ws, cs);
+    let sums = tally(drawing);
+    Edited {
+        reply: 0,
+        tally: sums,
+        drawing,
+        hit: e.hit,
+        lost: e.lost,
+    }
+}

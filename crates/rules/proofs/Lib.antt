@@ -1,0 +1,6 @@
+pub mod Decides
+pub mod Check
+pub mod Rooms
+pub mod Counted
+pub mod Pairs
+pub mod Answers

@@ -1,0 +1,36 @@
+-- The tests that the plain check makes row by row.
+use mathlib.Core.Bool.{Bool, _&&_, _||_, not, Bool·beq}
+use mathlib.Core.List.{List}
+use Prim.Native.Nat.{_≤_}
+use lib.Dec.{eqb}
+use Rattle.lists.specs.Lists.{any, all}
+use Rattle.symbol.specs.declared.Point.{Point}
+use Rattle.sheet.specs.declared.Wire.{Wire}
+use Rattle.sheet.specs.declared.Joint.{Joint}
+use Rattle.sheet.specs.declared.Drawing.{Drawing}
+use Rattle.parts.specs.Tables.{PartsFit}
+use Rattle.sheet.specs.Points.{same}
+use Rattle.sheet.specs.Lines.{high, tip, inside}
+use Rattle.sheet.specs.Joints.{place, countAt}
+
+-- the point lies strictly inside no wire
+unfoldable pub free : List Wire → Point → Bool
+free ws p = all (λ w. not (inside p w)) ws
+
+-- b goes on in line where a ends
+unfoldable pub goesOn : Wire → Wire → Bool
+goesOn a b = Bool·beq (a .vertical) (b .vertical) && (eqb (a .line) (b .line) && eqb (a .end) (b .start))
+
+-- the wire goes on in line in no other, or more than the two ends lie where they meet
+unfoldable pub parted : List Wire → List Joint → Wire → Bool
+parted ws js a = not (any (goesOn a) ws) || not (eqb (countAt (tip high a) js) 2)
+
+-- the two joint rows are one
+unfoldable pub sameRow : Joint → Joint → Bool
+sameRow i j = same (place i) (place j) && eqb (i .count) (j .count)
+
+-- rule 1, as far as the later rules need it: the counts are within the rooms, and components meet the limits
+pub record Within (d : Drawing) : Type 0 where
+  pub wires : d .wires .count ≤ 512
+  pub components : PartsFit (d .components)
+  pub joints : d .joints .count ≤ 1408

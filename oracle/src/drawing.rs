@@ -1,0 +1,82 @@
+//! What every drawing here can do, whoever makes the edits: perform a line of a script and print the answer.
+
+use crate::rows::{put_line, Rows};
+use crate::script::{lines, read_line, Command, Edit};
+
+#[derive(Debug, Clone, Copy, Default, PartialEq, Eq)]
+pub struct Answer {
+    pub reply: u32,
+    pub hit: u32,
+    pub lost: u32,
+}
+
+impl Answer {
+    /// An answer that tells no hit and no lost contacts, as each refusal does.
+    pub fn reply(reply: u32) -> Self {
+        Answer { reply, hit: 0, lost: 0 }
+    }
+}
+
+pub trait Drawing {
+    fn edit(&mut self, edit: &Edit) -> Answer;
+
+    fn rows(&self) -> Rows;
+
+    /// The R and S lines of document 01's list.
+    fn list(&self) -> Vec<u8>;
+}
+
+/// Which program's output is printed.
+#[derive(Debug, Clone, Copy, PartialEq, Eq)]
+pub enum Form {
+    /// panel_list: answers and lists.
+    List,
+    /// panel_rows: behind each answer the tally and all rows, and a point behind each line's output.
+    Rows,
+}
+
+/// Prints what the program prints for a whole script.
+pub fn run(drawing: &mut dyn Drawing, script: &[u8], form: Form) -> Vec<u8> {
+    let mut out = Vec::new();
+    for line in lines(script) {
+        perform(drawing, &read_line(line), form, &mut out);
+    }
+    out
+}
+
+pub fn perform(drawing: &mut dyn Drawing, command: &Command, form: Form, out: &mut Vec<u8>) {
+    match command {
+        Command::List => {
+            print_list(&drawing.list(), &drawing.rows(), out);
+            if form == Form::Rows {
+                out.extend_from_slice(b".\n");
+            }
+        }
+        Command::Edit(edit) => {
+            let answer = drawing.edit(edit);
+            print_answer(edit, answer, out);
+            if form == Form::Rows {
+                drawing.rows().print(out);
+            }
+        }
+        Command::Unreadable => {
+            out.extend_from_slice(b"A 10\n");
+            if form == Form::Rows {
+                drawing.rows().print(out);
+            }
+        }
+    }
+}
+
+pub fn print_list(list: &[u8], rows: &Rows, out: &mut Vec<u8>) {
+    out.extend_from_slice(list);
+    put_line(out, b"E", &[rows.loose() as i32]);
+}
+
+pub fn print_answer(edit: &Edit, answer: Answer, out: &mut Vec<u8>) {
+    let Answer { reply, hit, lost } = answer;
+    match edit {
+        Edit::TurnRight(_) | Edit::Mirror(_) => put_line(out, b"A", &[reply as i32, hit as i32, lost as i32]),
+        _ => put_line(out, b"A", &[reply as i32]),
+    }
+}
