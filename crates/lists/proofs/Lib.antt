@@ -4,3 +4,4 @@ pub mod Tables
 pub mod Walks
 pub mod Passes
 pub mod Places
+pub mod Somes

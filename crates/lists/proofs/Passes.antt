@@ -4,11 +4,11 @@ use Prim.Native.Nat.{ℕ, _+_, _≤_, _<_}
 use native.Mathlib.Numerals.{add-one}
 use native.Mathlib.Omega.{arith}
 use mathlib.Core.Path.{_≡_, refl, sym, ap, _∙_, subst}
-use mathlib.Core.List.{List, [], _∷_, _++_, append-nil}
+use mathlib.Core.List.{List, [], _∷_, _++_, append-nil, map, List·Memᴰ·head as ∈-head, List·Memᴰ·tail as ∈-tail}
 use mathlib.Core.Bool.{Bool, true, false, _||_, cond, true≢false}
 use lib.ListN.{length, getD, take, drop, length-append, take-append-drop}
 use lib.Seq.{take-suc, take-take}
-use Rattle.lists.specs.Lists.{any, keep, gather}
+use Rattle.lists.specs.Lists.{_∈_, any, keep, gather}
 use Rattle.lists.proofs.Lists.{keep-append, gather-append}
 
 module _ {A : Type 0} where
@@ -98,11 +98,29 @@ module _ {A B S : Type 0} where
     pub pass-end : (n : ℕ) → Pass H g l i s → i ≡ n → H (gather g (take n l)) s
     pass-end n p e = subst (λ (k : ℕ). H (gather g (take k l)) s) e (p .so-far)
 
--- what is kept of all that is gathered
-pub gather-keep : {A B : Type 0} (f : B → Bool) (g : A → List B) (xs : List A) → gather (λ x. keep f (g x)) xs ≡ keep f (gather g xs)
-unfolding gather keep
-gather-keep f g [] = refl
-gather-keep {B = B} f g (x ∷ xs) = ap (λ (l : List B). keep f (g x) ++ l) (gather-keep f g xs) ∙ sym (keep-append f (g x) (gather g xs))
+-- ---- gathering in another way
+
+module _ {A B : Type 0} where
+  -- what is kept of all that is gathered
+  pub gather-keep : (f : B → Bool) (g : A → List B) (xs : List A) → gather (λ x. keep f (g x)) xs ≡ keep f (gather g xs)
+  unfolding gather keep
+  gather-keep f g [] = refl
+  gather-keep f g (x ∷ xs) = ap (λ (l : List B). keep f (g x) ++ l) (gather-keep f g xs) ∙ sym (keep-append f (g x) (gather g xs))
+
+  pub gather-as : {f g : A → List B} → (xs : List A) → ((x : A) → x ∈ xs → f x ≡ g x) → gather f xs ≡ gather g xs
+  unfolding gather
+  gather-as [] e = refl
+  gather-as (x ∷ xs) e = λ i. e x (∈-head refl) i ++ gather-as xs (λ y m. e y (∈-tail m)) i
+
+  pub gather-map : (f : A → B) (xs : List A) → gather (λ x. f x ∷ []) xs ≡ map f xs
+  unfolding gather
+  gather-map f [] = refl
+  gather-map f (x ∷ xs) = ap {B = List B} (λ l. f x ∷ l) (gather-map f xs)
+
+  pub gather-gather : {C : Type 0} (g : B → List C) (f : A → List B) (xs : List A) → gather g (gather f xs) ≡ gather (λ x. gather g (f x)) xs
+  unfolding gather
+  gather-gather g f [] = refl
+  gather-gather {C} g f (x ∷ xs) = gather-append g (f x) (gather f xs) ∙ ap (λ (l : List C). gather g (f x) ++ l) (gather-gather g f xs)
 
 -- each row as it is
 pub gather-each : {A : Type 0} (xs : List A) → gather (λ x. x ∷ []) xs ≡ xs

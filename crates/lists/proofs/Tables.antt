@@ -23,6 +23,12 @@ module _ {A : Type 0} where
   row-in (x ∷ rows) (suc n) zero d h k = ∈-head refl
   row-in (x ∷ rows) (suc n) (suc i) d h k = ∈-tail (row-in rows n i d (le-of-suc-le-suc h) (le-of-suc-le-suc k))
 
+  -- a row that is there does not depend on what is read where there is none
+  pub same-row : (rows : List A) (i : ℕ) (d e : A) → i < length rows → getD rows i d ≡ getD rows i e
+  same-row [] i d e h = absurd (not-suc-le-zero h)
+  same-row (x ∷ rows) zero d e h = refl
+  same-row (x ∷ rows) (suc i) d e h = same-row rows i d e (le-of-suc-le-suc h)
+
   -- ---- a table and its list
 
   pub length-snoc : (xs : List A) (x : A) → length (xs ++ (x ∷ [])) ≡ length xs + 1
@@ -128,7 +134,7 @@ module _ {A : Type 0} where
       let e : drop count rows ≡ replicate (n - length xs) z = rw (h .rows-are, h .count-is) (drop-append-seam xs (replicate (n - length xs) z)) in
       zeros-only z (n - length xs) (subst (λ (l : List A). x ∈ l) e m)
 
-  -- ---- rows stored three at once, of which m count
+  -- ---- rows stored behind the first k, where what stands further behind does not matter
 
   pub three-of : (l : List A) (z : A) → length l ≡ 3 → l ≡ getD l 0 z ∷ getD l 1 z ∷ getD l 2 z ∷ []
   three-of [] z e = absurd (omega arith)
@@ -140,18 +146,20 @@ module _ {A : Type 0} where
   pub take-push : (rows : List A) (k : ℕ) (x : A) → k < length rows → take (k + 1) (set rows k x) ≡ take k rows ++ (x ∷ [])
   take-push rows k x h = rw add-one (take-suc-set rows k x h)
 
+  pub take-push-two : (rows : List A) (k : ℕ) (x y : A) → k + 1 < length rows → take (k + 2) (set (set rows k x) (k + 1) y) ≡ take k rows ++ (x ∷ y ∷ [])
+  take-push-two rows k x y h =
+      let same : length (set rows k x) ≡ length rows = length-set rows k x in
+      let two : k + 2 ≡ k + 1 + 1 = omega arith in
+      ap (λ (n : ℕ). take n (set (set rows k x) (k + 1) y)) two ∙ take-push (set rows k x) (k + 1) y (omega arith)
+      ∙ ap (λ (r : List A). r ++ (y ∷ [])) (take-push rows k x (omega arith)) ∙ append-assoc (take k rows) (x ∷ []) (y ∷ [])
+
   set-three : (rows : List A) (k : ℕ) (a b c : A) → k + 3 ≤ length rows → take (k + 3) (set (set (set rows k a) (k + 1) b) (k + 2) c) ≡ take k rows ++ (a ∷ b ∷ c ∷ [])
   set-three rows k a b c h =
-      let u : List A = set rows k a in
-      let t : List A = set u (k + 1) b in
-      let lu : length u ≡ length rows = length-set rows k a in
-      let lt : length t ≡ length u = length-set u (k + 1) b in
-      let k3 : k + 3 ≡ k + 2 + 1 = omega arith in
-      let k2 : k + 2 ≡ k + 1 + 1 = omega arith in
-      ap (λ (n : ℕ). take n (set t (k + 2) c)) k3 ∙ take-push t (k + 2) c (omega arith)
-      ∙ ap (λ (r : List A). r ++ (c ∷ [])) (ap (λ (n : ℕ). take n t) k2 ∙ take-push u (k + 1) b (omega arith) ∙ ap (λ (r : List A). r ++ (b ∷ [])) (take-push rows k a (omega arith)))
-      ∙ append-assoc (take k rows ++ (a ∷ [])) (b ∷ []) (c ∷ [])
-      ∙ append-assoc (take k rows) (a ∷ []) (b ∷ c ∷ [])
+      let t : List A = set (set rows k a) (k + 1) b in
+      let lt : length t ≡ length rows = length-set (set rows k a) (k + 1) b ∙ length-set rows k a in
+      let three : k + 3 ≡ k + 2 + 1 = omega arith in
+      ap (λ (n : ℕ). take n (set t (k + 2) c)) three ∙ take-push t (k + 2) c (omega arith)
+      ∙ ap (λ (r : List A). r ++ (c ∷ [])) (take-push-two rows k a b (omega arith)) ∙ append-assoc (take k rows) (a ∷ b ∷ []) (c ∷ [])
 
   pub take-three : (rows : List A) (k m : ℕ) (a b c : A) → k + 3 ≤ length rows → m ≤ 3 → take (k + m) (set (set (set rows k a) (k + 1) b) (k + 2) c) ≡ take k rows ++ take m (a ∷ b ∷ c ∷ [])
   take-three rows k m a b c h j =

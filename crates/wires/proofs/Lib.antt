@@ -1,4 +1,2 @@
 pub mod Cases
 pub mod Growing
-pub mod Cutting
-pub mod Merging

@@ -1,9 +1,5 @@
 // Tables of wires by value: each function does to the rows in use what its definition says of lists.
-pub mod draw;
-pub mod insert;
 pub mod lines;
-pub mod merge;
-pub mod run;
 pub mod split;
 pub mod square;
 
@@ -43,7 +39,7 @@ pub fn no_wires() -> Wires
 }
 
 // The answer where there is no room.
-pub(crate) fn no_room() -> Grown
+pub fn no_room() -> Grown
     ensures { λ r. ⌜ ((ws : List Wire) → 512 < length ws → Grows ws r) ⌝ }
 {
     let table = no_wires();

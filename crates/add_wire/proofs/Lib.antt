@@ -1,0 +1,6 @@
+pub mod Running
+pub mod Marking
+pub mod Cutting
+pub mod Crossing
+pub mod Adding
+pub mod Laying

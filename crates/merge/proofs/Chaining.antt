@@ -1,0 +1,162 @@
+-- Chains: built one number at a time, and a number sought along its chain. While it is sought, if it is in the list it is still to be met.
+use Prim.Native.Nat.{ℕ, zero, suc, _+_, _-_, _≤_, _<_}
+use native.Mathlib.Nat.{not-suc-le-zero, le-of-suc-le-suc}
+use native.Mathlib.Numerals.{add-one}
+use native.Mathlib.Omega.{arith}
+use mathlib.Core.Path.{_≡_, refl, sym, ap, _∙_, subst}
+use mathlib.Core.List.{List, [], _∷_}
+use mathlib.Core.Logic.{⊎-elim, _⊎_, inl, inr}
+use mathlib.Core.Bool.{Bool, true, false, _||_, false≢true}
+use lib.Dec.{eqb}
+use borrow.Author.Tests.{eq-eqb, eqb-true}
+use lib.ListN.{length, getD, take, set, replicate}
+use lib.Seq.{getD-set-same, getD-set-other, getD-take, length-take-le}
+use Rattle.lists.specs.Lists.{any}
+use Rattle.lists.proofs.Tests.{decide, eqb-reads, compare}
+use Rattle.merge.specs.Chains.{Met, here, later, Chained}
+
+zeros : (n k : ℕ) → _≡_ {A = ℕ} (getD (replicate n 0) k 0) 0
+zeros zero k = refl
+zeros (suc n) zero = refl
+zeros (suc n) (suc k) = zeros n k
+
+-- the first i numbers of l are chained
+pub record Building (key : ℕ → ℕ) (l : List ℕ) (i : ℕ) (last before : List ℕ) : Type 0 where
+  pub chained : Chained key (take i l) last before
+
+pub build-start : (key : ℕ → ℕ) (l : List ℕ) (m n : ℕ) → Building key l 0 (replicate m 0) (replicate n 0)
+build-start key l m n = record {
+  chained = record {
+    met = λ j h. absurd (not-suc-le-zero h);
+    falls = λ j h. absurd (not-suc-le-zero h);
+    starts = λ k. omega (arith, zeros m k);
+  };
+}
+
+pub build-end : {key : ℕ → ℕ} {l last before : List ℕ} {i : ℕ} (n : ℕ) → Building key l i last before → i ≡ n → Chained key (take n l) last before
+build-end {key} {l} {last} {before} n b e = subst (λ (k : ℕ). Chained key (take k l) last before) e (b .chained)
+
+-- a link further up changes nothing of what is met from below
+met-set : {before : List ℕ} {k j : ℕ} (i v : ℕ) → ((m : ℕ) → m < i → getD before m 0 ≤ m) → Met before k j → k ≤ i → Met (set before i v) k j
+met-set i v f here h = here
+met-set {before} {j = j} i v f (later {i = m} p) h =
+    let other : getD (set before i v) m 0 ≡ getD before m 0 = getD-set-other before i m v 0 (λ e. omega arith) in
+    let low : getD before m 0 ≤ i = omega (arith, f m (omega arith)) in
+    later (subst (λ (k : ℕ). Met (set before i v) k j) (sym other) (met-set i v f p low))
+
+-- the next number goes in front of the chain of its key
+pub build-next : {key : ℕ → ℕ} {l last before : List ℕ} {i : ℕ} (k : ℕ) → Building key l i last before → k ≡ key (getD l i 0) → i < length l → k < length last → i < length before
+    → Building key l (i + 1) (set last k (i + 1)) (set before i (getD last k 0))
+build-next {key} {l} {last} {before} {i} k built e hl hk hb = record { chained = record {
+  met = λ j h. subst (λ (x : ℕ). Met new (getD (set last k (i + 1)) (key x) 0) j) (sym (getD-take (i + 1) l j 0 (omega (arith, size)))) (each j (omega (arith, size)));
+  falls = λ j h. ⊎-elim
+      (λ (b : j < i). subst (λ (x : ℕ). x ≤ j) (sym (getD-set-other before i j (getD last k 0) 0 (λ q. omega arith))) (falls j b))
+      (λ (b : j ≡ i). subst (λ (x : ℕ). getD new x 0 ≤ x) (sym b) (subst (λ (x : ℕ). x ≤ i) (sym (getD-set-same before i (getD last k 0) 0 hb)) (starts k)))
+      (up-to j (omega (arith, size)));
+  starts = λ m. ⊎-elim
+      (λ (q : m ≡ k). subst (λ (x : ℕ). getD (set last k (i + 1)) x 0 ≤ length (take (i + 1) l)) (sym q) (omega (arith, getD-set-same last k (i + 1) 0 hk, size)))
+      (λ (q : m ≡ k → ⊥). omega (arith, getD-set-other last k m (i + 1) 0 q, starts m, size))
+      (decide (eqb-reads m k));
+} }
+  where
+    c : Chained key (take i l) last before
+    c = built .chained
+
+    new : List ℕ
+    new = set before i (getD last k 0)
+
+    size : length (take (i + 1) l) ≡ i + 1
+    size = length-take-le (i + 1) l (omega arith)
+
+    old : length (take i l) ≡ i
+    old = length-take-le i l (omega arith)
+
+    falls : (j : ℕ) → j < i → getD before j 0 ≤ j
+    falls j h = c .falls j (omega (arith, old))
+
+    starts : (m : ℕ) → getD last m 0 ≤ i
+    starts m = omega (arith, c .starts m, old)
+
+    up-to : (j : ℕ) → j < i + 1 → (j < i) ⊎ (j ≡ i)
+    up-to j h = ⊎-elim inl (⊎-elim inr (λ (g : i < j). absurd (omega arith))) (compare j i)
+
+    -- a number before: by the chain as it was, or from the new front on
+    before-it : (j : ℕ) → j < i → Met new (getD (set last k (i + 1)) (key (getD l j 0)) 0) j
+    before-it j h =
+        let m : Met new (getD last (key (getD l j 0)) 0) j = met-set i (getD last k 0) falls (subst (λ (x : ℕ). Met before (getD last (key x) 0) j) (getD-take i l j 0 h) (c .met j (omega (arith, old)))) (starts (key (getD l j 0))) in
+        ⊎-elim
+        (λ (q : key (getD l j 0) ≡ k). subst (λ (x : ℕ). Met new x j) (sym (ap (λ (x : ℕ). getD (set last k (i + 1)) x 0) q ∙ getD-set-same last k (i + 1) 0 hk ∙ add-one i))
+        (later (subst (λ (x : ℕ). Met new x j) (sym (getD-set-same before i (getD last k 0) 0 hb)) (subst (λ (x : ℕ). Met new (getD last x 0) j) q m))))
+        (λ (q : key (getD l j 0) ≡ k → ⊥). subst (λ (x : ℕ). Met new x j) (sym (getD-set-other last k (key (getD l j 0)) (i + 1) 0 q)) m)
+        (decide (eqb-reads (key (getD l j 0)) k))
+
+    it : Met new (getD (set last k (i + 1)) (key (getD l i 0)) 0) i
+    it = subst (λ (x : ℕ). Met new x i) (sym (ap (λ (x : ℕ). getD (set last k (i + 1)) x 0) (sym e) ∙ getD-set-same last k (i + 1) 0 hk ∙ add-one i)) here
+
+    each : (j : ℕ) → j < i + 1 → Met new (getD (set last k (i + 1)) (key (getD l j 0)) 0) j
+    each j h = ⊎-elim (before-it j) (λ (q : j ≡ i). subst (λ (x : ℕ). Met new (getD (set last k (i + 1)) (key (getD l x 0)) 0) x) (sym q) it) (up-to j h)
+
+-- ---- seeking
+
+-- c, if it is one of the list, is still to be met from k on
+pub record Sought (c : ℕ) (cs before : List ℕ) (k : ℕ) : Type 0 where
+  pub ahead : any (eqb c) cs ≡ true → (j : ℕ) × (getD cs j 0 ≡ c) × Met before k j
+  pub within : k ≤ length cs
+
+any-place : (c : ℕ) (cs : List ℕ) → any (eqb c) cs ≡ true → (j : ℕ) × (j < length cs) × (getD cs j 0 ≡ c)
+unfolding any
+any-place c [] e = absurd (false≢true e)
+any-place c (x ∷ cs) e = step (eqb c x) refl (any-place c cs) e
+  where
+    step : (b : Bool) → eqb c x ≡ b → (any (eqb c) cs ≡ true → (j : ℕ) × (j < length cs) × (getD cs j 0 ≡ c)) → (b || any (eqb c) cs) ≡ true → (j : ℕ) × (j < suc (length cs)) × (getD (x ∷ cs) j 0 ≡ c)
+    step true q ih e = (zero, omega arith, sym (eqb-true c x q))
+    step false q ih e = let t = ih e in (suc (t .0), omega (arith, t .1), t .2)
+
+place-any : (c : ℕ) (cs : List ℕ) (j : ℕ) → j < length cs → getD cs j 0 ≡ c → any (eqb c) cs ≡ true
+unfolding any
+place-any c [] j h e = absurd (not-suc-le-zero h)
+place-any c (x ∷ cs) zero h e = rw (eq-eqb c x (sym e))
+place-any c (x ∷ cs) (suc j) h e = step (eqb c x) (place-any c cs j (le-of-suc-le-suc h) e)
+  where
+    step : (b : Bool) → any (eqb c) cs ≡ true → (b || any (eqb c) cs) ≡ true
+    step true q = refl
+    step false q = q
+
+pub sought-start : {key : ℕ → ℕ} {cs last before : List ℕ} (c : ℕ) → Chained key cs last before → Sought c cs before (getD last (key c) 0)
+sought-start {key} {cs} {last} {before} c h = record {
+  ahead = λ e. let t = any-place c cs e in (t .0, t .2, subst (λ (x : ℕ). Met before (getD last (key x) 0) (t .0)) (t .2) (h .met (t .0) (t .1)));
+  within = h .starts (key c);
+}
+
+pub sought-at : {c j k : ℕ} {cs before : List ℕ} → Sought c cs before j → k ≡ j → Sought c cs before k
+sought-at {c} {cs = cs} {before} s e = subst (λ (x : ℕ). Sought c cs before x) (sym e) s
+
+-- the number at the link is another one
+met-next : {before : List ℕ} {i j : ℕ} → Met before (suc i) j → (j ≡ i → ⊥) → Met before (getD before i 0) j
+met-next here f = absurd (f refl)
+met-next (later p) f = p
+
+-- the link at k leads further down
+pub sought-falls : {key : ℕ → ℕ} {cs last before : List ℕ} {c k : ℕ} → Chained key cs last before → Sought c cs before k → 0 < k → getD before (k - 1) 0 ≤ k - 1
+sought-falls {k = k} h s l = h .falls (k - 1) (omega (arith, s .within))
+
+pub sought-next : {c k : ℕ} {cs before : List ℕ} → Sought c cs before k → 0 < k → (getD cs (k - 1) 0 ≡ c → ⊥) → getD before (k - 1) 0 ≤ k - 1 → Sought c cs before (getD before (k - 1) 0)
+sought-next {c} {k} {cs} {before} s h f g = record {
+  ahead = λ e. let t = s .ahead e in let is : k ≡ suc (k - 1) = omega arith in
+      (t .0, t .1, met-next (subst (λ (x : ℕ). Met before x (t .0)) is (t .2)) (λ q. f (ap (λ (x : ℕ). getD cs x 0) (sym q) ∙ t .1)));
+  within = omega (arith, s .within);
+}
+
+pub sought-here : {c k : ℕ} {cs before : List ℕ} → Sought c cs before k → 0 < k → getD cs (k - 1) 0 ≡ c → true ≡ any (eqb c) cs
+sought-here {c} {k} {cs} s h e = sym (place-any c cs (k - 1) (omega (arith, s .within)) e)
+
+met-end : {before : List ℕ} {k j : ℕ} → Met before k j → k ≡ 0 → ⊥
+met-end here e = omega arith
+met-end (later p) e = omega arith
+
+pub sought-end : {c k : ℕ} {cs before : List ℕ} → Sought c cs before k → k ≡ 0 → false ≡ any (eqb c) cs
+sought-end {c} {k} {cs} {before} s e = step (any (eqb c) cs) refl
+  where
+    step : (b : Bool) → any (eqb c) cs ≡ b → false ≡ any (eqb c) cs
+    step true q = absurd (met-end (s .ahead q .2) e)
+    step false q = sym q

@@ -1,0 +1,4 @@
+pub mod Chaining
+pub mod Coding
+pub mod Flagging
+pub mod Merging

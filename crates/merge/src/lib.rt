@@ -1,0 +1,67 @@
+// Wires in line become one where nothing holds them apart.
+mod codes;
+mod chains;
+mod held;
+
+ghost use mathlib.Core.Path.{_≡_};
+ghost use mathlib.Core.Bool.{_&&_, Bool·beq};
+ghost use Prim.Native.Nat.{_≤_};
+ghost use lib.Dec.{eqb};
+ghost use Rattle.sheet.specs.Merge;
+ghost use Rattle.sheet.specs.Drawings.{wireRows};
+ghost use Rattle.wires.specs.Tables.{pointRows, Tabled};
+use sheet::Wire;
+use sheet::Wires;
+use wires::Points;
+use wires::no_wires;
+
+// All wire ends and pads of a drawing, each as a number: twice 512 and three times 128 at most.
+pub struct Numbers {
+    pub rows: [u64; 1408],
+    pub count: usize,
+}
+
+// The last place of each key, and for each place the one before it with its key; both plus one, and 0 for none.
+pub struct Index {
+    pub last: [u16; 4096],
+    pub before: [u16; 1408],
+}
+
+// b goes on in line where a ends.
+fn follows(a: Wire, b: Wire) -> bool
+    ensures { λ r. ⌜ r ≡ (Bool·beq (a .vertical) (b .vertical) && (eqb (a .line) (b .line) && eqb (a .end) (b .start))) ⌝ }
+{
+    (a.vertical == b.vertical) & ((a.line == b.line) & (a.end == b.start))
+}
+
+// Wires in line become one where nothing holds them apart, in one pass from the front: cur is the wire still growing.
+pub fn merge(ws: Wires, pads: Points) -> Wires
+    requires { ⌜ (ws .count ≤ 512) × (pads .count ≤ 384) ⌝ }
+    ensures { λ r. ⌜ Tabled (Merge.merge (wireRows ws) (pointRows pads)) r ⌝ }
+{
+    let n = ws.count;
+    let mut out = no_wires();
+    if n == 0 {
+        return out;
+    }
+    let held = held::held_ends(ws, pads);
+    let mut cur = ws.rows[0];
+    let mut i = 1;
+    while i < n {
+        let b = ws.rows[i];
+        let apart = held[i - 1];
+        if follows(cur, b) & !apart {
+            cur.end = b.end;
+        } else {
+            let k = out.count;
+            out.rows[k] = cur;
+            out.count = k + 1;
+            cur = b;
+        }
+        i += 1;
+    }
+    let k = out.count;
+    out.rows[k] = cur;
+    out.count = k + 1;
+    out
+}
