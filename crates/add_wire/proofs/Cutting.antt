@@ -72,8 +72,8 @@ module _ (m : ℕ → Bool) (b : ℕ) where
   outside a zero v f = ap (λ (l : List Wire). l ++ []) (cut-out b v f)
   outside a (suc k) v f = ⊎-elim
       (λ (t : (m a ≡ true) × In a v). ap (gather (cutAt b)) (cuts m a k v (t .0) (t .1))
-          ∙ (λ i. cut-out b (upTo a v) (λ h. f (h .0, omega (arith, h .1, t .1 .1))) i ++ outside (suc a) k (fromOn a v) (λ h. f (omega (arith, h .0, t .1 .0), h .1)) i)
-          ∙ sym (cuts m a k v (t .0) (t .1)))
+      ∙ (λ i. cut-out b (upTo a v) (λ h. f (h .0, omega (arith, h .1, t .1 .1))) i ++ outside (suc a) k (fromOn a v) (λ h. f (omega (arith, h .0, t .1 .0), h .1)) i)
+      ∙ sym (cuts m a k v (t .0) (t .1)))
       (λ (n : m a ≡ true → In a v → ⊥). ap (gather (cutAt b)) (skips m a k v n) ∙ outside (suc a) k v f ∙ sym (skips m a k v n))
       (whether m a k v)
 
@@ -83,7 +83,7 @@ module _ (m : ℕ → Bool) (b : ℕ) where
   unmarked a zero v f = refl
   unmarked a (suc k) v f = ⊎-elim
       (λ (t : (m a ≡ true) × In a v). cuts with-b a k v (ap (λ (x : Bool). x || eqb b a) (t .0)) (t .1)
-          ∙ ap (λ (l : List Wire). upTo a v ∷ l) (unmarked (suc a) k (fromOn a v) (λ h. f (omega (arith, h .0, t .1 .0), h .1))) ∙ sym (cuts m a k v (t .0) (t .1)))
+      ∙ ap (λ (l : List Wire). upTo a v ∷ l) (unmarked (suc a) k (fromOn a v) (λ h. f (omega (arith, h .0, t .1 .0), h .1))) ∙ sym (cuts m a k v (t .0) (t .1)))
       (λ (n : m a ≡ true → In a v → ⊥). skips with-b a k v (λ e h. other n e h) ∙ unmarked (suc a) k v f ∙ sym (skips m a k v n))
       (whether m a k v)
     where
@@ -96,10 +96,10 @@ module _ (m : ℕ → Bool) (b : ℕ) where
   first-cut a zero v h l = ap (λ (r : List Wire). r ++ []) (cut-in b v h)
   first-cut a (suc k) v h l = ⊎-elim
       (λ (t : (m a ≡ true) × In a v). ap (gather (cutAt b)) (cuts m a k v (t .0) (t .1))
-          ∙ (λ i. cut-in b (upTo a v) (h .0, l) i ++ outside (suc a) k (fromOn a v) (λ g. omega (arith, g .0)) i)
-          ∙ ap (λ (r : List Wire). upTo b v ∷ r) (sym (cuts m a k (fromOn b v) (t .0) (l, t .1 .1))))
+      ∙ (λ i. cut-in b (upTo a v) (h .0, l) i ++ outside (suc a) k (fromOn a v) (λ g. omega (arith, g .0)) i)
+      ∙ ap (λ (r : List Wire). upTo b v ∷ r) (sym (cuts m a k (fromOn b v) (t .0) (l, t .1 .1))))
       (λ (n : m a ≡ true → In a v → ⊥). ap (gather (cutAt b)) (skips m a k v n) ∙ first-cut (suc a) k v h (omega arith)
-          ∙ ap (λ (r : List Wire). upTo b v ∷ r) (sym (skips m a k (fromOn b v) (λ e g. n e (omega (arith, h .0), g .1)))))
+      ∙ ap (λ (r : List Wire). upTo b v ∷ r) (sym (skips m a k (fromOn b v) (λ e g. n e (omega (arith, h .0), g .1)))))
       (whether m a k v)
 
   -- b is the next place
@@ -117,10 +117,10 @@ module _ (m : ℕ → Bool) (b : ℕ) where
   unfolding gather
   later-cut a k v l h ih = ⊎-elim
       (λ (t : (m a ≡ true) × In a v). ap (gather (cutAt b)) (cuts m a k v (t .0) (t .1))
-          ∙ (λ i. cut-out b (upTo a v) (λ g. omega (arith, g .1)) i ++ ih (fromOn a v) (l, h .1) i)
-          ∙ sym (cuts with-b a k v (ap (λ (x : Bool). x || eqb b a) (t .0)) (t .1)))
+      ∙ (λ i. cut-out b (upTo a v) (λ g. omega (arith, g .1)) i ++ ih (fromOn a v) (l, h .1) i)
+      ∙ sym (cuts with-b a k v (ap (λ (x : Bool). x || eqb b a) (t .0)) (t .1)))
       (λ (n : m a ≡ true → In a v → ⊥). ap (gather (cutAt b)) (skips m a k v n) ∙ ih v h
-          ∙ sym (skips with-b a k v (λ e g. ⊎-elim (λ (t : m a ≡ true). n t g) (λ (t : eqb b a ≡ true). let q = eqb-true b a t in omega arith) (one-true (m a) (eqb b a) e))))
+      ∙ sym (skips with-b a k v (λ e g. ⊎-elim (λ (t : m a ≡ true). n t g) (λ (t : eqb b a ≡ true). let q = eqb-true b a t in omega arith) (one-true (m a) (eqb b a) e))))
       (whether m a k v)
 
   -- b is one of the places to come: it is marked
@@ -162,7 +162,7 @@ unfolding gather cutFrom
 pieces-cut q m a zero v e = ap (λ (l : List Wire). l ++ []) (split-cut q v e)
 pieces-cut q m a (suc k) v e = ⊎-elim
     (λ (t : (m a ≡ true) × In a v). let w = cuts m a k v (t .0) (t .1) in
-        ap (gather (splitOne q)) w ∙ (λ i. split-cut q (upTo a v) e i ++ pieces-cut q m (suc a) k (fromOn a v) e i) ∙ sym (ap (gather (cutAt (along (v .vertical) q))) w))
+    ap (gather (splitOne q)) w ∙ (λ i. split-cut q (upTo a v) e i ++ pieces-cut q m (suc a) k (fromOn a v) e i) ∙ sym (ap (gather (cutAt (along (v .vertical) q))) w))
     (λ (n : m a ≡ true → In a v → ⊥). let w = skips m a k v n in ap (gather (splitOne q)) w ∙ pieces-cut q m (suc a) k v e ∙ sym (ap (gather (cutAt (along (v .vertical) q))) w))
     (whether m a k v)
 

@@ -40,9 +40,9 @@ marked-set {d} {qs} {marks} p m h = record {
   size = length-set marks (along d p) true ∙ m .size;
   each = λ a k. ⊎-elim
       (λ (e : a ≡ along d p). ap (λ (b : ℕ). getD (set marks (along d p) true) b false) e ∙ getD-set-same marks (along d p) true false (omega (arith, m .size))
-          ∙ sym (any-append (λ q. eqb (along d q) a) qs (p ∷ []) ∙ ap (λ (b : Bool). any (λ q. eqb (along d q) a) qs || (b || false)) (eq-eqb (along d p) a (sym e)) ∙ or-true (any (λ q. eqb (along d q) a) qs)))
+      ∙ sym (any-append (λ q. eqb (along d q) a) qs (p ∷ []) ∙ ap (λ (b : Bool). any (λ q. eqb (along d q) a) qs || (b || false)) (eq-eqb (along d p) a (sym e)) ∙ or-true (any (λ q. eqb (along d q) a) qs)))
       (λ (f : a ≡ along d p → ⊥). getD-set-other marks (along d p) a true false f ∙ m .each a k
-          ∙ sym (any-append (λ q. eqb (along d q) a) qs (p ∷ []) ∙ ap (λ (b : Bool). any (λ q. eqb (along d q) a) qs || (b || false)) (ne-eqb (along d p) a (λ e. f (sym e))) ∙ or-false (any (λ q. eqb (along d q) a) qs)))
+      ∙ sym (any-append (λ q. eqb (along d q) a) qs (p ∷ []) ∙ ap (λ (b : Bool). any (λ q. eqb (along d q) a) qs || (b || false)) (ne-eqb (along d p) a (λ e. f (sym e))) ∙ or-false (any (λ q. eqb (along d q) a) qs)))
       (decide (eqb-reads a (along d p)));
 }
 

@@ -8,10 +8,10 @@ ghost use Rattle.add_wire.specs.Marks.{isCrossed, cutAcross, cutFrom, up
 use sheet::Wire;
 use sheet::Wires;
 use wires::Grown;
-use wires::no_room;
-use wires::lines::point_of;
 use wires::lines::inside;
 use wires::lines::on;
+use wires::lines::point_of;
+use wires::no_room;
 use wires::split::left;
 use wires::split::right;
 

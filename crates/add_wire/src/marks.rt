@@ -11,9 +11,9 @@ use sheet::Wires;
 use symbol::Point;
 use wires::Points;
 use wires::lines::along;
-use wires::lines::on;
-use wires::lines::low_tip;
 use wires::lines::high_tip;
+use wires::lines::low_tip;
+use wires::lines::on;
 
 // The point's place is marked if it lies on n.
 fn mark(marks: &mut [bool; 12001], n: Wire, p: Point)

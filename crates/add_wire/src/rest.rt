@@ -3,13 +3,13 @@ ghost use Prim.Native.Nat.{_≤_};
 ghost use Rattle.sheet.specs.Run;
 ghost use Rattle.sheet.specs.Drawings.{wireRows};
 ghost use Rattle.wires.specs.Tables.{Grows};
+use crate::run::keep_unmet;
 use sheet::Wire;
 use sheet::Wires;
 use wires::Grown;
-use wires::lines::low_tip;
 use wires::lines::high_tip;
+use wires::lines::low_tip;
 use wires::split::split_more;
-use crate::run::keep_unmet;
 
 // The wires that the new one does not meet, split at both its ends as drawn.
 pub fn rest_of(ws: Wires, n: Wire) -> Grown

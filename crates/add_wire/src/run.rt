@@ -4,10 +4,10 @@ ghost use Prim.Native.Nat.{_≤_, min, max};
 ghost use Rattle.sheet.specs.Run;
 ghost use Rattle.sheet.specs.Drawings.{wireRows};
 ghost use Rattle.wires.specs.Tables.{Tabled};
-use wires::lines::meets;
-use wires::no_wires;
 use sheet::Wire;
 use sheet::Wires;
+use wires::lines::meets;
+use wires::no_wires;
 
 // The wires that the new one does not meet, in order.
 pub fn keep_unmet(ws: Wires, n: Wire) -> Wires

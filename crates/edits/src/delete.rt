@@ -11,13 +11,13 @@ ghost use Rattle.joints.specs.Tables.{sheetOf, Sound};
 ghost use Rattle.edits.specs.Making.{quiet, made, Pointed};
 use crate::Made;
 use crate::answer;
+use merge::merge;
 use parts::pads::all_pads;
 use parts::square::keep_unmet;
 use sheet::Components;
 use sheet::Wires;
 use symbol::Point;
 use wires::Grown;
-use wires::merge::merge;
 use wires::square::keep_unhit;
 
 // The wires merged, among the pads of the components.

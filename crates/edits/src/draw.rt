@@ -5,12 +5,12 @@ ghost use Rattle.joints.specs.Tables.{sheetOf, Sound};
 ghost use Rattle.edits.specs.Making.{quiet, made};
 use crate::Made;
 use crate::answer;
+use add_wire::add_wire;
 use parts::pads::all_pads;
 use sheet::Components;
 use sheet::Wire;
 use sheet::Wires;
 use wires::Grown;
-use wires::draw::add_wire;
 
 // The new wire among the others; one of zero length changes nothing.
 pub fn draw(ws: Wires, cs: Components, n: Wire) -> Made

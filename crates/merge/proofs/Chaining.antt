@@ -47,17 +47,19 @@ met-set {before} {j = j} i v f (later {i = m} p) h =
 -- the next number goes in front of the chain of its key
 pub build-next : {key : ℕ → ℕ} {l last before : List ℕ} {i : ℕ} (k : ℕ) → Building key l i last before → k ≡ key (getD l i 0) → i < length l → k < length last → i < length before
     → Building key l (i + 1) (set last k (i + 1)) (set before i (getD last k 0))
-build-next {key} {l} {last} {before} {i} k built e hl hk hb = record { chained = record {
-  met = λ j h. subst (λ (x : ℕ). Met new (getD (set last k (i + 1)) (key x) 0) j) (sym (getD-take (i + 1) l j 0 (omega (arith, size)))) (each j (omega (arith, size)));
-  falls = λ j h. ⊎-elim
-      (λ (b : j < i). subst (λ (x : ℕ). x ≤ j) (sym (getD-set-other before i j (getD last k 0) 0 (λ q. omega arith))) (falls j b))
-      (λ (b : j ≡ i). subst (λ (x : ℕ). getD new x 0 ≤ x) (sym b) (subst (λ (x : ℕ). x ≤ i) (sym (getD-set-same before i (getD last k 0) 0 hb)) (starts k)))
-      (up-to j (omega (arith, size)));
-  starts = λ m. ⊎-elim
-      (λ (q : m ≡ k). subst (λ (x : ℕ). getD (set last k (i + 1)) x 0 ≤ length (take (i + 1) l)) (sym q) (omega (arith, getD-set-same last k (i + 1) 0 hk, size)))
-      (λ (q : m ≡ k → ⊥). omega (arith, getD-set-other last k m (i + 1) 0 q, starts m, size))
-      (decide (eqb-reads m k));
-} }
+build-next {key} {l} {last} {before} {i} k built e hl hk hb = record {
+  chained = record {
+    met = λ j h. subst (λ (x : ℕ). Met new (getD (set last k (i + 1)) (key x) 0) j) (sym (getD-take (i + 1) l j 0 (omega (arith, size)))) (each j (omega (arith, size)));
+    falls = λ j h. ⊎-elim
+        (λ (b : j < i). subst (λ (x : ℕ). x ≤ j) (sym (getD-set-other before i j (getD last k 0) 0 (λ q. omega arith))) (falls j b))
+        (λ (b : j ≡ i). subst (λ (x : ℕ). getD new x 0 ≤ x) (sym b) (subst (λ (x : ℕ). x ≤ i) (sym (getD-set-same before i (getD last k 0) 0 hb)) (starts k)))
+        (up-to j (omega (arith, size)));
+    starts = λ m. ⊎-elim
+        (λ (q : m ≡ k). subst (λ (x : ℕ). getD (set last k (i + 1)) x 0 ≤ length (take (i + 1) l)) (sym q) (omega (arith, getD-set-same last k (i + 1) 0 hk, size)))
+        (λ (q : m ≡ k → ⊥). omega (arith, getD-set-other last k m (i + 1) 0 q, starts m, size))
+        (decide (eqb-reads m k));
+  };
+}
   where
     c : Chained key (take i l) last before
     c = built .chained

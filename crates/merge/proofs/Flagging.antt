@@ -29,7 +29,7 @@ pub flag-next : {rows : List Wire} {n i : ℕ} {cs : List ℕ} {flags : List Boo
 flag-next {rows} {n} {i} {cs} {flags} {x} d f t h k l = record {
   each = λ ps c j z u. ⊎-elim
       (λ (q : j ≡ i). subst (λ (j : ℕ). getD (set flags i x) j false ≡ held (take n rows) ps (getD (take n rows) j z .vertical) (tip high (getD (take n rows) j z))) (sym q)
-          (getD-set-same flags i x false l ∙ t (take n rows) ps c ∙ ap (λ (w : Wire). held (take n rows) ps (w .vertical) (tip high w)) (sym (here z))))
+      (getD-set-same flags i x false l ∙ t (take n rows) ps c ∙ ap (λ (w : Wire). held (take n rows) ps (w .vertical) (tip high w)) (sym (here z))))
       (λ (q : j ≡ i → ⊥). getD-set-other flags i j x false q ∙ f .each ps c j z (omega arith))
       (decide (eqb-reads j i));
 }

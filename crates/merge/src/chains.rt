@@ -41,7 +41,13 @@ pub fn chain(codes: [u64; 1408], n: usize) -> Index
 }
 
 // The number is one of the first n.
-pub fn is_in(codes: &[u64; 1408], n: usize, last: &[u16; 4096], before: &[u16; 1408], c: u64) -> bool
+pub fn is_in(
+    codes: &[u64; 1408],
+    n: usize,
+    last: &[u16; 4096],
+    before: &[u16; 1408],
+    c: u64,
+) -> bool
     requires { ⌜ (n ≤ 1408) × Chained (λ c. c % 4093) (take n (now codes)) (now last) (now before) ⌝ }
     ensures { λ r. ⌜ r ≡ any (eqb c) (take n (now (codes .entry))) ⌝ }
 {

@@ -6,12 +6,12 @@ ghost use Rattle.lists.specs.Lists.{gather};
 ghost use Rattle.sheet.specs.Drawings.{wireRows};
 ghost use Rattle.wires.specs.Tables.{pointRows};
 ghost use Rattle.merge.specs.Codes.{Mark, kindOf, mark, endMarks, codeOf, Small, Coded, numberRows};
+use crate::Numbers;
 use sheet::Wires;
 use symbol::Point;
 use wires::Points;
-use wires::lines::low_tip;
 use wires::lines::high_tip;
-use crate::Numbers;
+use wires::lines::low_tip;
 
 fn wide(x: u16) -> u64
     ensures { λ r. ⌜ (r ≡ x) × (x ≤ 65535) ⌝ }

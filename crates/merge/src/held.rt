@@ -11,16 +11,16 @@ ghost use Rattle.sheet.specs.Drawings.{wireRows};
 ghost use Rattle.wires.specs.Tables.{pointRows};
 ghost use Rattle.merge.specs.Codes.{marksOf, Coded, Flagged};
 ghost use Rattle.merge.specs.Chains.{Chained};
+use crate::chains::chain;
+use crate::chains::is_in;
+use crate::codes::code;
+use crate::codes::end_codes;
+use crate::codes::kind_of;
+use crate::codes::pad_codes;
 use sheet::Wire;
 use sheet::Wires;
 use wires::Points;
 use wires::lines::high_tip;
-use crate::codes::code;
-use crate::codes::kind_of;
-use crate::codes::end_codes;
-use crate::codes::pad_codes;
-use crate::chains::chain;
-use crate::chains::is_in;
 
 // An end of a wire of the other direction, or a pad, is where the wire ends.
 fn is_held(w: Wire, codes: &[u64; 1408], n: usize, last: &[u16; 4096], before: &[u16; 1408]) -> bool
@@ -35,7 +35,13 @@ fn is_held(w: Wire, codes: &[u64; 1408], n: usize, last: &[u16; 4096], before: &
 }
 
 // A flag for each wire.
-fn flags_of(ws: Wires, codes: &[u64; 1408], n: usize, last: &[u16; 4096], before: &[u16; 1408]) -> [bool; 512]
+fn flags_of(
+    ws: Wires,
+    codes: &[u64; 1408],
+    n: usize,
+    last: &[u16; 4096],
+    before: &[u16; 1408],
+) -> [bool; 512]
     requires { ⌜ (ws .count ≤ 512) × ((n ≤ 1408) × Chained (λ c. c % 4093) (take n (now codes)) (now last) (now before)) ⌝ }
     ensures { λ r. ⌜ ((ps : List Point) → Coded (marksOf (wireRows ws) ps) (take n (now (codes .entry))) → Flagged (wireRows ws) ps r) ⌝ }
 {

@@ -1,6 +1,6 @@
 // Wires in line become one where nothing holds them apart.
-mod codes;
 mod chains;
+mod codes;
 mod held;
 
 ghost use mathlib.Core.Path.{_≡_};

@@ -55,8 +55,13 @@ loop-less : tie.Need-loop-less Inv-loop μ-loop
 loop-less c = omega arith
 
 loop-again : tie.Need-loop-again Inv-loop μ-loop
-loop-again c = (omega arith, omega arith, simp length-set (omega arith), simp length-set (omega arith),
-    build-next _ (c .before .before .before .loop .inv .4) (c .before .key-of .ensures .0) (omega arith) (omega arith) (omega arith))
+loop-again c = (
+  omega arith,
+  omega arith,
+  simp length-set (omega arith),
+  simp length-set (omega arith),
+  build-next _ (c .before .before .before .loop .inv .4) (c .before .key-of .ensures .0) (omega arith) (omega arith) (omega arith),
+)
 
 returns : tie.Need-returns Inv-loop μ-loop
 returns c = build-end (c .before .before .args .n) (c .before .loop .inv .4) (omega arith)
