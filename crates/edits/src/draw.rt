@@ -1,5 +1,6 @@
 // A new wire.
 ghost use mathlib.Core.Path.{_≡_};
+ghost use Prim.Native.Nat.{_≤_};
 ghost use Rattle.sheet.specs.Edits.{wire};
 ghost use Rattle.joints.specs.Tables.{sheetOf, Sound};
 ghost use Rattle.edits.specs.Making.{quiet, made};
@@ -14,7 +15,7 @@ use wires::Grown;
 
 // The new wire among the others; one of zero length changes nothing.
 pub fn draw(ws: Wires, cs: Components, n: Wire) -> Made
-    requires { ⌜ Sound ws cs ⌝ }
+    requires { ⌜ Sound ws cs × (n .end ≤ 12000) ⌝ }
     ensures { λ r. ⌜ r ≡ made (quiet (wire n (sheetOf ws cs))) ⌝ }
 {
     if n.start == n.end {

@@ -9,7 +9,7 @@ answer-requires : tie.Need-answer-requires
 answer-requires c κs = search needs
 
 returns : tie.Need-returns
-returns c = let s = c .before .before .before in c .answer .ensures _ (idle-wires (s .args .n) (s .pre) (c .before .if1 .taken)) (same-parts (s .args .n) (s .pre)) refl refl
+returns c = let s = c .before .before .before in c .answer .ensures _ (idle-wires (s .args .n) (s .pre .0) (c .before .if1 .taken)) (same-parts (s .args .n) (s .pre .0)) refl refl
 
 all-pads-requires : tie.Need-all-pads-requires
 all-pads-requires c κs = search needs
@@ -22,7 +22,7 @@ answer-requires-2 c κs = search needs
 
 returns-2 : tie.Need-returns-2
 returns-2 c = let s = c .before .before .before .before .before in
-    c .answer2 .ensures _ (drawn-wires (s .args .n) (s .pre) (c .before .before .before .if1 .left) (c .before .before .all-pads .ensures .points-are) (c .before .add-wire .ensures)) (same-parts (s .args .n) (s .pre)) refl refl
+    c .answer2 .ensures _ (drawn-wires (s .args .n) (s .pre .0) (c .before .before .before .if1 .left) (c .before .before .all-pads .ensures .points-are) (c .before .add-wire .ensures)) (same-parts (s .args .n) (s .pre .0)) refl refl
 
 pub draw-spec : {M : Type 1} → statement M
 draw-spec =

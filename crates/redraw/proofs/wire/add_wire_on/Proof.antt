@@ -25,7 +25,8 @@ returns c = let s = c .before .before .before .before in
     c .refused .ensures ∙ wire-decides (s .args .d) (s .args .vertical) _ _ _ (s .args .t) (c .before .before .before .asked-wire .ensures ∙ handed-three (askedWire (s .args .vertical)) _ _ _ (s .fits .line) (s .fits .start) (s .fits .end)) .refuses (c .before .if1 .taken)
 
 draw-requires : tie.Need-draw-requires
-draw-requires c κs = let s = c .before .before .before .before .before .before in lawful-sound (s .pre) (owned _ _ (s .good .0 .1 .1))
+draw-requires c κs = let s = c .before .before .before .before .before .before in
+    (lawful-sound (s .pre) (owned _ _ (s .good .0 .1 .1)), wire-drawable _ _ _ _ (c .before .before .before .before .before .asked-wire .ensures ∙ handed-three (askedWire (s .args .vertical)) _ _ _ (s .fits .line) (s .fits .start) (s .fits .end)) (c .before .before .before .if1 .left) .end)
 
 finished-requires : tie.Need-finished-requires
 finished-requires c κs = let s = c .before .before .before .before .before .before .before in
