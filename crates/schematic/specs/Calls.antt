@@ -1,97 +1,11 @@
--- The five edits as a caller meets them: refusals in document 01's order, then the edit of the sheet.
+-- The five edits as a caller meets them: "9: the lent drawing isn't lawful", and then as `redraw` has them.
 -- "Order: 10, 9, 4, 1, 2, 3, 5, 6, 7, 8; the first that applies."
-use Prim.Native.Nat.{ℕ}
-use mathlib.Core.Bool.{Bool, _&&_, cond, not}
-use mathlib.Core.List.{List}
-use lib.Dec.{eqb, leb}
-use lib.IntN.{ℤ, natAbs}
-use lib.Signed.{leZ}
-use lib.ListN.{length}
-use Rattle.lists.specs.Lists.{any}
-use Rattle.edge.specs.Coordinates.{biased, toℕ, sizedReply, sizeOf}
-use Rattle.orientation.specs.declared.RotMirror.{RotMirror}
-use Rattle.orientation.specs.Orientations.{known}
-use Rattle.label.specs.declared.Label.{Label}
-use Rattle.label.specs.Labels.{heldLabel}
-use Rattle.symbol.specs.declared.Point.{Point}
-use Rattle.sheet.specs.declared.Wire.{Wire}
-use Rattle.sheet.specs.declared.Component.{Component}
 use Rattle.sheet.specs.declared.Drawing.{Drawing}
 use Rattle.sheet.specs.declared.Tally.{Tally}
-use Rattle.sheet.specs.Parts.{touches}
-use Rattle.sheet.specs.Drawings.{Sheet, listsOf, drawn, tallyOf}
-use Rattle.sheet.specs.Edits.{Outcome, wire, place, delete, turnRight, mirror}
-use Rattle.lawful.specs.Check.{lawful}
-use Rattle.schematic.specs.declared.Edited.{Edited}
+use Rattle.rules.specs.Check.{lawful}
+use Rattle.redraw.specs.declared.Edited.{Edited}
+use Rattle.redraw.specs.Calls.{unless}
 
--- "A refused edit returns the drawing received, with hit and lost 0; tally and buffer keep their old content."
-abbrev pub refused : ℕ → Drawing → Tally → Edited
-refused n d t = record { reply = n; tally = t; drawing = d; hit = 0; lost = 0 }
-
--- the reply n is given if the test fails
-abbrev pub unless : Bool → ℕ → Drawing → Tally → Edited → Edited
-unless b n d t other = cond b other (refused n d t)
-
--- "after reply 0 it holds the numbers of wires, joints and components and the sum of all joint counts"
-abbrev pub done : Outcome → Edited
-done o = record { reply = 0; tally = tallyOf (o .sheet); drawing = drawn (o .sheet); hit = o .hit; lost = o .lost }
-
--- "the drawing after the edit would hold over 512 wires or 128 components"
-unfoldable pub roomy : Sheet → Bool
-roomy s = leb (length (s .wires)) 512 && leb (length (s .parts)) 128
-
--- 7 or 0
-unfoldable pub edited : Drawing → Tally → Outcome → Edited
-edited d t o = unless (roomy (o .sheet)) 7 d t (done o)
-
--- "Hit and lost are 0 for wire, place and delete."
-abbrev pub quiet : Sheet → Outcome
-quiet s = record { sheet = s; hit = 0; lost = 0 }
-
--- a coordinate from -limit to limit
-abbrev pub ranged : ℕ → ℤ → Bool
-ranged limit z = leb (natAbs z) limit
-
--- ---- the edits of a drawing that is known to be lawful
-
-abbrev pub wireAt : Bool → ℤ → ℤ → ℤ → Wire
-wireAt vertical line start end = record { vertical = vertical; line = biased line; start = biased start; end = biased end }
-
-unfoldable pub addWire : Drawing → Bool → ℤ → ℤ → ℤ → Tally → Edited
-addWire d vertical line start end t =
-    unless (ranged 6000 line && (ranged 6000 start && ranged 6000 end)) 1 d t
-    (unless (leZ start end) 2 d t
-    (edited d t (quiet (wire (wireAt vertical line start end) (listsOf d)))))
-
-abbrev pub componentAt : ℕ → RotMirror → ℤ → ℤ → Label → Component
-componentAt kind o x y label = record { kind = kind; «rot_mirror» = o; x = biased x; y = biased y; label = heldLabel label .bytes }
-
-unfoldable pub addComponent : Drawing → ℕ → RotMirror → ℤ → ℤ → Label → Tally → Edited
-addComponent d kind o x y label t =
-    let c = componentAt kind o x y label in
-    unless (leb kind 2 && known o) 4 d t
-    (unless (ranged 5800 x && ranged 5800 y) 1 d t
-    (unless (eqb (heldLabel label .reply) 0) 5 d t
-    (unless (not (any (touches c) (listsOf d .parts))) 6 d t
-    (edited d t (quiet (place c (listsOf d)))))))
-
--- the pointer and a size are in their ranges, else 1 or 3
-abbrev pub pointed : Drawing → ℤ → ℤ → ℤ → Tally → (Point → ℕ → Outcome) → Edited
-pointed d x y size t edit =
-    unless (ranged 6000 x && ranged 6000 y) 1 d t
-    (unless (eqb (sizedReply (sizeOf size)) 0) 3 d t
-    (edited d t (edit (record { x = biased x; y = biased y }) (toℕ size))))
-
-unfoldable pub deleteAt : Drawing → ℤ → ℤ → ℤ → Tally → Edited
-deleteAt d x y size t = pointed d x y size t (λ p n. quiet (delete p n (listsOf d)))
-
-unfoldable pub rotateAt : Drawing → ℤ → ℤ → ℤ → Tally → Edited
-rotateAt d x y size t = pointed d x y size t (λ p n. turnRight p n (listsOf d))
-
-unfoldable pub mirrorAt : Drawing → ℤ → ℤ → ℤ → Tally → Edited
-mirrorAt d x y size t = pointed d x y size t (λ p n. mirror p n (listsOf d))
-
--- ---- the public calls: "9: the lent drawing isn't lawful"
-
-abbrev pub checked : Drawing → Tally → Edited → Edited
+-- the answer e, if the drawing is lawful
+unfoldable pub checked : Drawing → Tally → Edited → Edited
 checked d t e = unless (lawful d) 9 d t e
