@@ -1,0 +1,5 @@
+pub mod Noting
+pub mod Thin
+pub mod Four
+pub mod Five
+pub mod Six

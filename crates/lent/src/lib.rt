@@ -1,0 +1,75 @@
+// The public edits with a tally that the caller lends: it is brought up to date in its place after reply 0, and untouched otherwise.
+ghost use mathlib.Core.Path.{_≡_};
+ghost use Rattle.redraw.specs.Calls;
+ghost use Rattle.schematic.specs.Calls.{checked};
+ghost use Rattle.lent.specs.Noting.{noted};
+use label::Label;
+use orientation::RotMirror;
+use redraw::Edited;
+use sheet::Drawing;
+use sheet::Tally;
+
+pub fn add_wire(
+    d: Drawing,
+    vertical: bool,
+    line: i32,
+    start: i32,
+    end: i32,
+    t: &mut Tally,
+) -> Edited
+    ensures { λ r. ⌜ (r ≡ checked d (now (t .entry)) (Calls.addWire d vertical line start end (now (t .entry)))) × (now (t .exit) ≡ noted (now (t .entry)) r) ⌝ }
+{
+    let e = schematic::add_wire(d, vertical, line, start, end, *t);
+    if e.reply == 0 {
+        *t = e.tally;
+    }
+    e
+}
+
+pub fn add_component(
+    d: Drawing,
+    kind: u8,
+    rot_mirror: RotMirror,
+    x: i32,
+    y: i32,
+    label: Label,
+    t: &mut Tally,
+) -> Edited
+    ensures { λ r. ⌜ (r ≡ checked d (now (t .entry)) (Calls.addComponent d kind «rot_mirror» x y label (now (t .entry)))) × (now (t .exit) ≡ noted (now (t .entry)) r) ⌝ }
+{
+    let e = schematic::add_component(d, kind, rot_mirror, x, y, label, *t);
+    if e.reply == 0 {
+        *t = e.tally;
+    }
+    e
+}
+
+pub fn delete_at_point(d: Drawing, x: i32, y: i32, size: i32, t: &mut Tally) -> Edited
+    ensures { λ r. ⌜ (r ≡ checked d (now (t .entry)) (Calls.deleteAt d x y size (now (t .entry)))) × (now (t .exit) ≡ noted (now (t .entry)) r) ⌝ }
+{
+    let e = schematic::delete_at_point(d, x, y, size, *t);
+    if e.reply == 0 {
+        *t = e.tally;
+    }
+    e
+}
+
+pub fn rotate_component_at_point(d: Drawing, x: i32, y: i32, size: i32, t: &mut Tally) -> Edited
+    ensures { λ r. ⌜ (r ≡ checked d (now (t .entry)) (Calls.rotateAt d x y size (now (t .entry)))) × (now (t .exit) ≡ noted (now (t .entry)) r) ⌝ }
+{
+    let e = schematic::rotate_component_at_point(d, x, y, size, *t);
+    if e.reply == 0 {
+        *t = e.tally;
+    }
+    e
+}
+
+pub fn mirror_component_at_point(d: Drawing, x: i32, y: i32, size: i32, t: &mut Tally) -> Edited
+    ensures { λ r. ⌜ (r ≡ checked d (now (t .entry)) (Calls.mirrorAt d x y size (now (t .entry)))) × (now (t .exit) ≡ noted (now (t .entry)) r) ⌝ }
+{
+    let e = schematic::mirror_component_at_point(d, x, y, size, *t);
+    if e.reply == 0 {
+        *t = e.tally;
+    }
+    e
+}
