@@ -1,12 +1,10 @@
 -- What a lawful drawing tells the net numbers: each wire end and pad has its joint row, and the tables of their numbers lead to the numbers of the sheet.
-use Prim.Native.Nat.{ℕ}
 use mathlib.Core.List.{List, map, Memᴰ·append-left as ∈-left}
-use mathlib.Core.Path.{_≡_, sym, ap, subst, _∙_}
+use mathlib.Core.Path.{_≡_, ap, subst, _∙_}
 use Rattle.lists.specs.Lists.{_∈_, keep}
 use Rattle.lists.proofs.Lists.{keep-old}
 use Rattle.lists.proofs.Tables.{holds-list, holds-count}
 use Rattle.symbol.specs.declared.Point.{Point}
-use Rattle.sheet.specs.declared.Component.{Component}
 use Rattle.sheet.specs.declared.Components.{Components}
 use Rattle.sheet.specs.declared.Joint.{Joint}
 use Rattle.sheet.specs.declared.Drawing.{Drawing}
@@ -21,7 +19,7 @@ use Rattle.parts.specs.Tables.{PartsFit, TabledParts, Listed}
 use Rattle.nets.specs.declared.Links.{Links}
 use Rattle.nets.specs.declared.Pads.{Pads}
 use Rattle.nets.specs.Numbers.{byNumber, numbersOf}
-use Rattle.nets.specs.Tables.{netIn, linkRows, padRows}
+use Rattle.nets.specs.Tables.{netIn, padRows}
 use Rattle.net_numbers.specs.Netted.{isPower, netOn, numberIn, netNumbers}
 use Rattle.net_numbers.specs.Found.{Jointed, LinksIn, PadsIn}
 use Rattle.net_numbers.proofs.Numbered.{pad-marked, power-pad}

@@ -1,15 +1,14 @@
 -- Wires and pads by the numbers of their joints, as the tables of the nets hold them.
 use Prim.Native.Nat.{ℕ, _≤_}
-use mathlib.Core.List.{List, map, map-map, map-id, Memᴰ·of-map as ∈-of-map, List·Memᴰ·head as ∈-head, List·Memᴰ·tail as ∈-tail}
-use mathlib.Core.Path.{_≡_, refl, sym, ap, subst, _∙_}
+use mathlib.Core.List.{List, map, map-map, map-id, Memᴰ·of-map as ∈-of-map}
+use mathlib.Core.Path.{_≡_, sym, subst, _∙_}
 use lib.ListN.{take}
 use Rattle.lists.specs.Lists.{_∈_}
-use Rattle.lists.proofs.Lists.{in-gather}
 use Rattle.symbol.specs.declared.Point.{Point}
 use Rattle.sheet.specs.declared.Wire.{Wire}
 use Rattle.sheet.specs.declared.Joint.{Joint}
 use Rattle.sheet.specs.declared.Joints.{Joints}
-use Rattle.sheet.specs.Lines.{tip, tips, low, high, ends}
+use Rattle.sheet.specs.Lines.{tip, low, high, ends}
 use Rattle.sheet.specs.Drawings.{jointRows}
 use Rattle.nets.specs.declared.Links.{Links}
 use Rattle.nets.specs.declared.Pads.{Pads}
@@ -17,19 +16,12 @@ use Rattle.nets.specs.Tables as Tables
 use Rattle.nets.specs.Tables.{JointNumber, linkRows, padRows}
 use Rattle.net_numbers.specs.Netted.{endsOf, numberIn}
 use Rattle.net_numbers.specs.Found.{Jointed, LinksIn, PadsIn}
+use Rattle.net_numbers.proofs.Numbered.{low-end, high-end}
 use Rattle.net_numbers.proofs.Keys.{number-low}
 
 -- the numbers of a wire's two ends
 abbrev pub numbersOf : List Joint → Wire → ℕ × ℕ
 numbersOf js w = (numberIn js (tip low w), numberIn js (tip high w))
-
-pub low-end : {w : Wire} {ws : List Wire} → w ∈ ws → tip low w ∈ ends ws
-unfolding ends
-low-end m = in-gather tips m (∈-head refl)
-
-pub high-end : {w : Wire} {ws : List Wire} → w ∈ ws → tip high w ∈ ends ws
-unfolding ends
-high-end m = in-gather tips m (∈-tail (∈-head refl))
 
 pub links-in : {js : Joints} {ws : List Wire} {t : Links} → Jointed (ends ws) js → t .count ≤ 512 → map Tables.endsOf (take (t .count) (t .rows)) ≡ map (numbersOf (jointRows js)) ws → LinksIn (jointRows js) ws t
 unfolding linkRows

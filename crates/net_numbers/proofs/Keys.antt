@@ -1,30 +1,22 @@
 -- Joints found by key: keys rise as joints do, and a joint's number is the place of its key, counted from 1.
-use Prim.Native.Nat.{ℕ, suc, _+_, _*_, _/_, _%_, _<_, _≤_}
+use Prim.Native.Nat.{ℕ, _+_, _/_, _%_, _<_, _≤_}
 use native.Mathlib.Omega.{arith}
-use mathlib.Core.List.{List, map, map-map, map-id, Memᴰ·of-map as ∈-of-map}
-use mathlib.Core.Path.{_≡_, refl, sym, ap, subst, _∙_}
+use mathlib.Core.List.{List}
+use mathlib.Core.Path.{_≡_, sym, ap, subst, _∙_}
 use mathlib.Core.Logic.{_⊎_, inl, inr}
 use lib.ListN.{length, getD, take, length-take}
 use lib.Seq.{getD-take}
 use Rattle.lists.specs.Lists.{_∈_}
 use Rattle.lists.proofs.Tests.{compare}
 use Rattle.symbol.specs.declared.Point.{Point}
-use Rattle.sheet.specs.declared.Wire.{Wire}
-use Rattle.sheet.specs.declared.Wires.{Wires}
-use Rattle.sheet.specs.declared.Joint.{Joint}
 use Rattle.sheet.specs.declared.Joints.{Joints}
 use Rattle.sheet.specs.Points.{Rise, lower, level}
-use Rattle.sheet.specs.Lines.{tip, low, high}
-use Rattle.sheet.specs.Joints.{place, Rising}
+use Rattle.sheet.specs.Joints.{place}
 use Rattle.sheet.specs.Drawings.{jointRows, zeroJoint}
 use Rattle.joints.specs.Keys.{spot}
-use Rattle.nets.specs.declared.Link.{Link}
-use Rattle.nets.specs.declared.Links.{Links}
-use Rattle.nets.specs.declared.Pads.{Pads}
-use Rattle.nets.specs.Tables as Tables
-use Rattle.nets.specs.Tables.{JointNumber, linkRows, padRows}
-use Rattle.net_numbers.specs.Netted.{endsOf, numberIn}
-use Rattle.net_numbers.specs.Found.{Ascending, PlaceOf, NumberAt, KeysOf, Jointed, LinksIn, PadsIn}
+use Rattle.nets.specs.Tables.{JointNumber}
+use Rattle.net_numbers.specs.Netted.{numberIn}
+use Rattle.net_numbers.specs.Found.{Ascending, PlaceOf, NumberAt, KeysOf, Jointed}
 use Rattle.net_numbers.proofs.Finding.{rows-at, maps-at}
 use Rattle.net_numbers.proofs.Numbered.{number-found}
 

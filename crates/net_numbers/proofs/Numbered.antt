@@ -4,8 +4,7 @@ use native.Mathlib.Omega.{arith}
 use mathlib.Core.List.{List, map, Memᴰ·of-map as ∈-of-map, Memᴰ·append-left as ∈-left, Memᴰ·append-right as ∈-right, List·Memᴰ·head as ∈-head, List·Memᴰ·tail as ∈-tail}
 use mathlib.Core.Path.{_≡_, refl, sym, ap, subst, _∙_}
 use lib.ListN.{length, getD, length-map}
-use Rattle.lists.specs.Lists.{_∈_, keep, gather}
-use Rattle.lists.specs.Places.{span}
+use Rattle.lists.specs.Lists.{_∈_, keep}
 use Rattle.lists.proofs.Lists.{gather-in, in-gather, keep-old}
 use Rattle.symbol.specs.declared.Point.{Point}
 use Rattle.sheet.specs.declared.Wire.{Wire}
@@ -17,7 +16,7 @@ use Rattle.sheet.specs.Drawings.{Sheet, marksOf, joints, zeroJoint}
 use Rattle.sheet.proofs.Points.{same-reads}
 use Rattle.sheet.proofs.JointRows.{joints-listed}
 use Rattle.nets.specs.Nets.{Numbered}
-use Rattle.nets.specs.Numbers.{byNumber, numbersOf}
+use Rattle.nets.specs.Numbers.{byNumber}
 use Rattle.nets.proofs.Told.{OwnNumbers, numbers-right, numbers-low}
 use Rattle.net_numbers.specs.Netted.{endsOf, isPower, netOn, numberIn, netNumbers}
 use Rattle.net_numbers.proofs.Finding.{span-found}
@@ -28,6 +27,15 @@ unfolding numberIn
 number-found js p t =
     let r = span-found (λ j. same-reads p (place j)) zeroJoint (t .1) (sym (t .2)) in
     (_, refl, r .0, r .1)
+
+-- a wire's ends are among all wire ends
+pub low-end : {w : Wire} {ws : List Wire} → w ∈ ws → tip low w ∈ ends ws
+unfolding ends
+low-end m = in-gather tips m (∈-head refl)
+
+pub high-end : {w : Wire} {ws : List Wire} → w ∈ ws → tip high w ∈ ends ws
+unfolding ends
+high-end m = in-gather tips m (∈-tail (∈-head refl))
 
 module _ (s : Sheet) where
   all-joints : (p : Point) → p ∈ marksOf s → (j : Joint) × j ∈ joints s × (place j ≡ p)
@@ -40,9 +48,8 @@ module _ (s : Sheet) where
   pub power-pad : (p : Point) → p ∈ padsOf (keep isPower (s .parts)) → p ∈ padsOf (s .parts)
   power-pad p m = let r = gather-in pads (keep isPower (s .parts)) m in in-gather pads (keep-old isPower (s .parts) (r .1)) (r .2)
 
-  pub tips-marked : (w : Wire) → w ∈ s .wires → tip low w ∈ marksOf s × tip high w ∈ marksOf s
-  unfolding ends
-  tips-marked w m = (∈-left _ (in-gather tips m (∈-head refl)), ∈-left _ (in-gather tips m (∈-tail (∈-head refl))))
+  tips-marked : (w : Wire) → w ∈ s .wires → tip low w ∈ marksOf s × tip high w ∈ marksOf s
+  tips-marked w m = (∈-left _ (low-end m), ∈-left _ (high-end m))
 
   own : (p q : Point) → p ∈ marksOf s → q ∈ marksOf s → numberIn (joints s) p ≡ numberIn (joints s) q → p ≡ q
   own p q m n e =

@@ -1,7 +1,7 @@
 -- 7,936 bytes always suffice: 62 for each of 128 components, where labels have at most 16 bytes and numbers three digits.
-use mathlib.Core.Path.{_≡_, refl, ap, subst, _∙_}
+use mathlib.Core.Path.{_≡_, refl, subst}
 use mathlib.Core.Bool.{Bool, true, false, not, cond}
-use mathlib.Core.List.{List, [], _∷_, _++_, map, Memᴰ·of-map as ∈-of-map, Memᴰ·append-left as ∈-left, List·Memᴰ·head as ∈-head, List·Memᴰ·tail as ∈-tail}
+use mathlib.Core.List.{List, [], _∷_, map, Memᴰ·of-map as ∈-of-map, Memᴰ·append-left as ∈-left, List·Memᴰ·head as ∈-head, List·Memᴰ·tail as ∈-tail}
 use Prim.Native.Nat.{ℕ, zero, suc, _+_, _*_, _≤_, _<_}
 use native.Mathlib.Omega.{arith}
 use lib.Dec.{eqb}
@@ -10,11 +10,9 @@ use Rattle.lists.specs.Lists.{_∈_}
 use Rattle.lists.proofs.Tests.{Reads, pass, fail, eqb-reads}
 use Rattle.lists.proofs.Lists.{length-gather}
 use Rattle.label.specs.Labels.{takeWhile, labelPart}
-use Rattle.sheet.specs.declared.Component.{Component}
 use Rattle.sheet.specs.declared.Drawing.{Drawing}
 use Rattle.sheet.specs.Parts.{pads}
-use Rattle.sheet.specs.Drawings.{Sheet, Sized, listsOf}
-use Rattle.sheet.specs.Wiring.{Room}
+use Rattle.sheet.specs.Drawings.{Sized, listsOf}
 use Rattle.sheet.specs.Rules.{Lawful}
 use Rattle.sheet.proofs.Parts.{length-pads}
 use Rattle.sheet.proofs.Rules.{lawful-room}
@@ -22,7 +20,7 @@ use Rattle.text.specs.Text.{decimalOf}
 use Rattle.text.proofs.Decimals.{length-decimal}
 use Rattle.net_numbers.specs.Netted.{netNumbers}
 use Rattle.net_numbers.proofs.Numbered.{net-numbers-low}
-use Rattle.netlist.specs.Listing.{switch, relay, Entry, entry, padsIn, linesOf, linesIn, linesFrom, listWith, nth, listOf}
+use Rattle.netlist.specs.Listing.{switch, Entry, entry, padsIn, linesOf, linesIn, linesFrom, listWith, nth, listOf}
 use Rattle.netlist.proofs.Spelling.{length-net, length-pin, length-relay, length-switch}
 
 lines-short : (k : ℕ) (l : List ℕ) (a b c : ℕ) → length l ≤ 16 → length (decimalOf a) ≤ 3 → length (decimalOf b) ≤ 3 → length (decimalOf c) ≤ 3 → length (linesOf k l a b c) ≤ 62

@@ -6,3 +6,5 @@ pub mod Demand3
 pub mod Lengths
 mod Rows
 mod Buffers
+mod Examples
+mod Checked

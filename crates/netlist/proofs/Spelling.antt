@@ -1,12 +1,12 @@
 -- The lines of the list: how long they are, and that they tell their numbers.
-use mathlib.Core.Path.{_≡_, refl, sym, ap, _∙_}
+use mathlib.Core.Path.{_≡_, sym, _∙_}
 use mathlib.Core.List.{List, [], _∷_, _++_, append-assoc}
-use Prim.Native.Nat.{ℕ, zero, suc, _+_, _*_, _≤_, _<_}
+use Prim.Native.Nat.{ℕ, _+_, _<_}
 use native.Mathlib.Omega.{arith}
 use lib.ListN.{length, length-append}
 use Rattle.text.specs.Text.{decimalOf}
 use Rattle.text.proofs.Decimals.{decimal-told}
-use Rattle.netlist.specs.Listing.{netWord, pinWord, relay, switch, linesOf}
+use Rattle.netlist.specs.Listing.{netWord, pinWord, relay, switch}
 
 -- ---- lengths
 

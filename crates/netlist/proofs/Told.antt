@@ -1,14 +1,13 @@
 -- A list tells the nets of the pads of coils and contacts; with those of power symbols it tells all.
-use mathlib.Core.Path.{_≡_, refl, sym, ap, _∙_}
+use mathlib.Core.Path.{_≡_, refl, sym, _∙_}
 use mathlib.Core.Bool.{Bool, cond}
 use mathlib.Core.Logic.{_⊎_, inl, inr}
 use mathlib.Core.List.{List, [], _∷_, _++_, append-assoc, append-nil, List·Memᴰ·head as ∈-head, List·Memᴰ·tail as ∈-tail}
 use Prim.Native.Nat.{ℕ, zero, suc, _+_, _≤_, _<_}
 use native.Mathlib.Omega.{arith}
-use lib.Dec.{eqb}
 use Rattle.lists.specs.Lists.{_∈_}
 use Rattle.lists.proofs.Tests.{Reads, pass, fail, eqb-reads, ltb-reads, compare}
-use Rattle.netlist.specs.Listing.{switch, relay, Entry, padsIn, linesOf, linesIn, linesFrom, listWith}
+use Rattle.netlist.specs.Listing.{switch, Entry, padsIn, linesOf, linesIn, linesFrom, listWith}
 use Rattle.netlist.proofs.Spelling.{relay-told, switch-told}
 
 -- the pads of all entries

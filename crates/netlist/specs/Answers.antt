@@ -4,7 +4,12 @@ use mathlib.Core.Bool.{cond}
 use mathlib.Core.List.{List, _++_}
 use lib.Dec.{leb}
 use lib.ListN.{length, drop}
+use Rattle.sheet.specs.declared.Drawing.{Drawing}
+use Rattle.sheet.specs.Drawings.{listsOf}
+use Rattle.rules.specs.Check.{lawful}
 use Rattle.netlist.specs.declared.Listed.{Listed}
+use Rattle.netlist.specs.declared.LooseCount.{LooseCount}
+use Rattle.netlist.specs.Listing.{listOf, looseOf}
 
 abbrev pub listed : ℕ → ℕ → Listed
 listed reply length = record { reply = reply; length = length }
@@ -16,3 +21,17 @@ answerOf list room = cond (leb (length list) room) (listed 0 (length list)) (lis
 -- the list in front, "bytes behind it stay"; after a refusal the buffer keeps its old content
 unfoldable pub bufferOf : List ℕ → List ℕ → List ℕ
 bufferOf list old = cond (leb (length list) (length old)) (list ++ drop (length list) old) old
+
+-- ---- the calls: "9: the lent drawing isn't lawful" comes before 8
+
+unfoldable pub netlistOf : Drawing → ℕ → Listed
+netlistOf d room = cond (lawful d) (answerOf (listOf (listsOf d)) room) (listed 9 0)
+
+unfoldable pub netlistIn : Drawing → List ℕ → List ℕ
+netlistIn d old = cond (lawful d) (bufferOf (listOf (listsOf d)) old) old
+
+abbrev pub counted : ℕ → ℕ → LooseCount
+counted reply count = record { reply = reply; count = count }
+
+unfoldable pub looseAnswer : Drawing → LooseCount
+looseAnswer d = cond (lawful d) (counted 0 (looseOf (listsOf d))) (counted 9 0)

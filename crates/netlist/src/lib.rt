@@ -9,7 +9,8 @@ ghost use Rattle.sheet.specs.Drawings.{listsOf, componentRows, jointRows};
 ghost use Rattle.sheet.specs.Rules.{Lawful};
 ghost use Rattle.text.specs.Text.{Put, Room};
 ghost use Rattle.netlist.specs.Listing.{entry, nth, listWith, listOf, looseIn, looseOf};
-ghost use Rattle.netlist.specs.Answers.{answerOf, bufferOf};
+ghost use Rattle.netlist.specs.Answers.{answerOf, bufferOf, netlistOf, netlistIn, looseAnswer};
+use lawful::check;
 use lines::put_lines;
 use net_numbers::pad_numbers;
 use sheet::Components;
@@ -20,6 +21,12 @@ use sheet::Joints;
 pub struct Listed {
     pub reply: u8,
     pub length: usize,
+}
+
+// A reply, and the number of loose points.
+pub struct LooseCount {
+    pub reply: u8,
+    pub count: u32,
 }
 
 // The whole list, of which what fits is written: the coils, then the contacts.
@@ -79,4 +86,31 @@ pub fn loose_on(d: Drawing) -> u32
 {
     let js = d.joints;
     count_loose(js)
+}
+
+// The wiring list of a lent drawing, written in front of the lent buffer.
+pub fn build_netlist(d: Drawing, out: &mut [u8]) -> Listed
+    ensures told { λ r. ⌜ r ≡ netlistOf d (length (now (out .entry))) ⌝ }
+    ensures written { λ _. ⌜ now (out .exit) ≡ netlistIn d (now (out .entry)) ⌝ }
+{
+    let c = check(d);
+    if c.rule != 0 {
+        return Listed {
+            reply: 9,
+            length: 0,
+        };
+    }
+    write_list_on(d, out)
+}
+
+// The number of loose points of a lent drawing.
+pub fn loose(d: Drawing) -> LooseCount
+    ensures { λ r. ⌜ r ≡ looseAnswer d ⌝ }
+{
+    let c = check(d);
+    if c.rule != 0 {
+        return LooseCount { reply: 9, count: 0 };
+    }
+    let count = loose_on(d);
+    LooseCount { reply: 0, count }
 }

@@ -1,11 +1,9 @@
 -- `net_numbers::find` meets its contract: the key's place, if it has one, stays from low on and below high.
-use Prim.Native.Nat.{_-_, _+_, _<_}
+use Prim.Native.Nat.{_-_}
 use native.Mathlib.Omega.{arith}
 use Rattle.net_numbers.proofs.Keys.{Between, between-all, between-high, between-low, between-one}
 use Rattle.net_numbers.proofs.find.Statement.{statement}
 use Rattle.net_numbers.proofs.find.Tie as tie
-use Rattle.net_numbers.proofs.find.Reads as reads
-use Rattle.net_numbers.proofs.find.Lts as lts
 
 abbrev Inv-loop : tie.InvT-loop
 Inv-loop keys n k low₀ high₀ low high = Between keys n k low high
@@ -13,43 +11,33 @@ Inv-loop keys n k low₀ high₀ low high = Between keys n k low high
 abbrev μ-loop : tie.MeasureT-loop
 μ-loop keys n k low₀ high₀ low high = high - low
 
--- src/lib.rt:60:5
 loop-holds : tie.Need-loop-holds Inv-loop μ-loop
 loop-holds c = between-all (c .pre)
 
--- src/lib.rt:60:11
 add-loop : tie.Need-add-loop Inv-loop μ-loop
 add-loop c = omega arith
 
--- src/lib.rt:61:20
 add-mid : tie.Need-add-mid Inv-loop μ-loop
 add-mid c = omega arith
 
--- src/lib.rt:62:16
 mul-if1 : tie.Need-mul-if1 Inv-loop μ-loop
 mul-if1 c = omega arith
 
--- src/lib.rt:62:16
 element-copy-out-if1 : tie.Need-element-copy-out-if1 Inv-loop μ-loop
 element-copy-out-if1 c = omega arith
 
--- src/lib.rt:60:5
 loop-less : tie.Need-loop-less Inv-loop μ-loop
 loop-less c = omega arith
 
--- src/lib.rt:60:5
 loop-again : tie.Need-loop-again Inv-loop μ-loop
 loop-again c = between-high (c .before .before .before .before .pre) _ (c .before .before .before .loop .inv) (omega arith) (omega arith) (c .if1 .taken)
 
--- src/lib.rt:60:5
 loop-less-2 : tie.Need-loop-less-2 Inv-loop μ-loop
 loop-less-2 c = omega arith
 
--- src/lib.rt:60:5
 loop-again-2 : tie.Need-loop-again-2 Inv-loop μ-loop
 loop-again-2 c = between-low (c .before .before .before .before .pre) _ (c .before .before .before .loop .inv) (omega arith) (omega arith) (c .if1 .left)
 
--- src/lib.rt:54:1
 returns : tie.Need-returns Inv-loop μ-loop
 returns c = between-one (c .before .before .pre) (c .before .loop .inv) (omega arith)
 

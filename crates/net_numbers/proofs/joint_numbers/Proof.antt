@@ -1,8 +1,8 @@
 -- `net_numbers::joint_numbers` meets its contract: the rows so far are the numbers of the points passed.
-use Prim.Native.Nat.{ℕ, _≤_, _-_}
+use Prim.Native.Nat.{_≤_, _-_}
 use native.Mathlib.Omega.{arith}
 use mathlib.Core.Path.{_≡_, refl, _∙_}
-use lib.ListN.{length, length-set, length-replicate}
+use lib.ListN.{length, length-set}
 use Rattle.lists.proofs.Tables.{long, row-in}
 use Rattle.sheet.specs.Drawings.{jointRows}
 use Rattle.symbol.specs.Symbols.{unused}
@@ -13,10 +13,6 @@ use Rattle.net_numbers.proofs.Keys.{Ready, ready-ascend, ready-number}
 use Rattle.net_numbers.proofs.Filling.{pads-in}
 use Rattle.net_numbers.proofs.joint_numbers.Statement.{statement}
 use Rattle.net_numbers.proofs.joint_numbers.Tie as tie
-use Rattle.net_numbers.proofs.joint_numbers.Reads as reads
-use Rattle.net_numbers.proofs.joint_numbers.Lts as lts
-use Rattle.net_numbers.proofs.joint_keys.Reads as joint-keys-reads
-use Rattle.net_numbers.proofs.number_of.Reads as number-of-reads
 
 abbrev Inv-loop : tie.InvT-loop
 Inv-loop js ps keys n rows₀ i₀ rows i =
@@ -25,43 +21,33 @@ Inv-loop js ps keys n rows₀ i₀ rows i =
 abbrev μ-loop : tie.MeasureT-loop
 μ-loop js ps keys n rows₀ i₀ rows i = n - i
 
--- src/lib.rt:106:16
 joint-keys-requires : tie.Need-joint-keys-requires Inv-loop μ-loop
 joint-keys-requires c κs = c .pre .1 .room
 
--- src/lib.rt:110:5
 loop-holds : tie.Need-loop-holds Inv-loop μ-loop
 loop-holds c = (omega arith, search long, refl, record { long = search long; jointed = c .before .pre .1; keys-are = c .joint-keys .ensures }, filled-start)
 
--- src/lib.rt:111:17
 mul-p : tie.Need-mul-p Inv-loop μ-loop
 mul-p c = omega arith
 
--- src/lib.rt:111:17
 element-copy-out-p : tie.Need-element-copy-out-p Inv-loop μ-loop
 element-copy-out-p c = omega arith
 
--- src/lib.rt:112:19
 number-of-requires : tie.Need-number-of-requires Inv-loop μ-loop
 number-of-requires c κs = ready-ascend (c .before .before .before .loop .inv .3)
 
--- src/lib.rt:112:9
 mul-rows : tie.Need-mul-rows Inv-loop μ-loop
 mul-rows c = omega arith
 
--- src/lib.rt:112:9
 array-write-rows : tie.Need-array-write-rows Inv-loop μ-loop
 array-write-rows c = omega arith
 
--- src/lib.rt:113:9
 add-i : tie.Need-add-i Inv-loop μ-loop
 add-i c = omega arith
 
--- src/lib.rt:110:5
 loop-less : tie.Need-loop-less Inv-loop μ-loop
 loop-less c = omega arith
 
--- src/lib.rt:110:5
 loop-again : tie.Need-loop-again Inv-loop μ-loop
 loop-again c =
     let l = c .before .before .before .before .loop in
@@ -70,7 +56,6 @@ loop-again c =
     let number = ready-number (l .inv .3) _ m refl (c .number-of .ensures) in
     (omega arith, l .inv .1, length-set (l .rows) (l .i) _ ∙ l .inv .2, l .inv .3, filled-next unused _ (l .inv .4) number (omega arith) (omega arith))
 
--- src/lib.rt:102:1
 returns : tie.Need-returns Inv-loop μ-loop
 returns c = pads-in (c .before .loop .inv .3 .jointed) (c .before .before .before .pre .0) (filled-end (c .before .before .before .args .t1 .count) (c .before .loop .inv .4) (omega arith))
 

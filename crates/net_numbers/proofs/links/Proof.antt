@@ -1,23 +1,18 @@
 -- `net_numbers::links` meets its contract: the rows so far are the numbers at the ends of the wires passed.
-use Prim.Native.Nat.{ℕ, _≤_, _-_}
+use Prim.Native.Nat.{_≤_, _-_}
 use native.Mathlib.Omega.{arith}
 use mathlib.Core.Path.{_≡_, refl, _∙_}
-use lib.ListN.{length, length-set, length-replicate}
+use lib.ListN.{length, length-set}
 use Rattle.lists.proofs.Tables.{long, row-in}
-use Rattle.sheet.specs.Lines.{tip, low, high, ends}
+use Rattle.sheet.specs.Lines.{ends}
 use Rattle.sheet.specs.Drawings.{wireRows, jointRows, zeroWire}
 use Rattle.nets.specs.Tables.{endsOf}
 use Rattle.net_numbers.proofs.Finding.{Filled, filled-start, filled-next, filled-end}
+use Rattle.net_numbers.proofs.Numbered.{low-end, high-end}
 use Rattle.net_numbers.proofs.Keys.{Ready, ready-ascend, ready-number}
-use Rattle.net_numbers.proofs.Filling.{numbersOf, low-end, high-end, links-in}
+use Rattle.net_numbers.proofs.Filling.{numbersOf, links-in}
 use Rattle.net_numbers.proofs.links.Statement.{statement}
 use Rattle.net_numbers.proofs.links.Tie as tie
-use Rattle.net_numbers.proofs.links.Reads as reads
-use Rattle.net_numbers.proofs.links.Lts as lts
-use Rattle.net_numbers.proofs.joint_keys.Reads as joint-keys-reads
-use Rattle.net_numbers.proofs.number_of.Reads as number-of-reads
-use Rattle.wires.proofs.lines.high_tip.Reads as high-tip-reads
-use Rattle.wires.proofs.lines.low_tip.Reads as low-tip-reads
 
 abbrev Inv-loop : tie.InvT-loop
 Inv-loop js ws keys n rows₀ i₀ rows i =
@@ -26,55 +21,42 @@ Inv-loop js ws keys n rows₀ i₀ rows i =
 abbrev μ-loop : tie.MeasureT-loop
 μ-loop js ws keys n rows₀ i₀ rows i = n - i
 
--- src/lib.rt:86:16
 joint-keys-requires : tie.Need-joint-keys-requires Inv-loop μ-loop
 joint-keys-requires c κs = c .pre .1 .room
 
--- src/lib.rt:91:5
 loop-holds : tie.Need-loop-holds Inv-loop μ-loop
 loop-holds c = (omega arith, search long, refl, record { long = search long; jointed = c .before .pre .1; keys-are = c .joint-keys .ensures }, filled-start)
 
--- src/lib.rt:92:17
 mul-w : tie.Need-mul-w Inv-loop μ-loop
 mul-w c = omega arith
 
--- src/lib.rt:92:17
 element-copy-out-w : tie.Need-element-copy-out-w Inv-loop μ-loop
 element-copy-out-w c = omega arith
 
--- src/lib.rt:93:47
 low-tip-requires : tie.Need-low-tip-requires Inv-loop μ-loop
 low-tip-requires c κs = tt
 
--- src/lib.rt:93:13
 number-of-requires : tie.Need-number-of-requires Inv-loop μ-loop
 number-of-requires c κs = ready-ascend (c .before .before .before .before .loop .inv .3)
 
--- src/lib.rt:94:45
 high-tip-requires : tie.Need-high-tip-requires Inv-loop μ-loop
 high-tip-requires c κs = tt
 
--- src/lib.rt:94:13
 number-of-requires-2 : tie.Need-number-of-requires-2 Inv-loop μ-loop
 number-of-requires-2 c κs = ready-ascend (c .before .before .before .before .before .before .before .loop .inv .3)
 
--- src/lib.rt:95:9
 mul-rows : tie.Need-mul-rows Inv-loop μ-loop
 mul-rows c = omega arith
 
--- src/lib.rt:95:9
 array-set-from-rows : tie.Need-array-set-from-rows Inv-loop μ-loop
 array-set-from-rows c = omega arith
 
--- src/lib.rt:96:9
 add-i : tie.Need-add-i Inv-loop μ-loop
 add-i c = omega arith
 
--- src/lib.rt:91:5
 loop-less : tie.Need-loop-less Inv-loop μ-loop
 loop-less c = omega arith
 
--- src/lib.rt:91:5
 loop-again : tie.Need-loop-again Inv-loop μ-loop
 loop-again c =
     let w = c .before .before .before .before .before .before in
@@ -85,7 +67,6 @@ loop-again c =
     let to = ready-number (l .inv .3) _ (high-end m) (c .before .high-tip .ensures) (c .number-of2 .ensures) in
     (omega arith, l .inv .1, length-set (l .rows) (l .i) _ ∙ l .inv .2, l .inv .3, filled-next zeroWire _ (l .inv .4) (λ i. (from i, to i)) (omega arith) (omega arith))
 
--- src/lib.rt:82:1
 returns : tie.Need-returns Inv-loop μ-loop
 returns c = links-in (c .before .loop .inv .3 .jointed) (c .before .before .before .pre .0) (filled-end (c .before .before .before .args .t1 .count) (c .before .loop .inv .4) (omega arith))
 

@@ -5,43 +5,28 @@ use Rattle.net_numbers.proofs.Drawn.{ends-jointed, parts-fit, pads-join
 use borrow.Author.Needs.{needs}
 use Rattle.net_numbers.proofs.pad_numbers.Statement.{statement}
 use Rattle.net_numbers.proofs.pad_numbers.Tie as tie
-use Rattle.net_numbers.proofs.pad_numbers.Reads as reads
-use Rattle.net_numbers.proofs.pad_numbers.Lts as lts
-use Rattle.net_numbers.proofs.joint_numbers.Reads as joint-numbers-reads
-use Rattle.net_numbers.proofs.links.Reads as links-reads
-use Rattle.net_numbers.proofs.powers.Reads as powers-reads
-use Rattle.nets.proofs.pad_nets.Reads as pad-nets-reads
-use Rattle.parts.proofs.pads.all_pads.Reads as all-pads-reads
 
--- src/lib.rt:146:9
 links-requires : tie.Need-links-requires
 links-requires c κs = (c .before .before .before .pre .rule1 .wire-room, ends-jointed (c .before .before .before .pre))
 
--- src/lib.rt:147:38
 powers-requires : tie.Need-powers-requires
 powers-requires c κs = search needs
 
--- src/lib.rt:147:29
 all-pads-requires : tie.Need-all-pads-requires
 all-pads-requires c κs = powers-fit (c .before .before .before .before .before .pre) (c .powers .ensures)
 
--- src/lib.rt:147:9
 joint-numbers-requires : tie.Need-joint-numbers-requires
 joint-numbers-requires c κs = (c .all-pads .ensures .room, powers-jointed (c .before .before .before .before .before .before .pre) (c .before .powers .ensures) (c .all-pads .ensures))
 
--- src/lib.rt:148:30
 all-pads-requires-2 : tie.Need-all-pads-requires-2
 all-pads-requires-2 c κs = parts-fit (c .before .before .before .before .before .before .before .pre)
 
--- src/lib.rt:148:9
 joint-numbers-requires-2 : tie.Need-joint-numbers-requires-2
 joint-numbers-requires-2 c κs = (c .all-pads2 .ensures .room, pads-jointed (c .before .before .before .before .before .before .before .before .pre) (c .all-pads2 .ensures))
 
--- src/lib.rt:149:5
 pad-nets-requires : tie.Need-pad-nets-requires
 pad-nets-requires c κs = search needs
 
--- src/lib.rt:139:1
 returns : tie.Need-returns
 returns c =
     let n = c .before in

@@ -11,9 +11,6 @@ use Rattle.parts.specs.Tables.{TabledParts}
 use Rattle.net_numbers.specs.Netted.{isPower}
 use Rattle.net_numbers.proofs.powers.Statement.{statement}
 use Rattle.net_numbers.proofs.powers.Tie as tie
-use Rattle.net_numbers.proofs.powers.Reads as reads
-use Rattle.net_numbers.proofs.powers.Lts as lts
-use Rattle.parts.proofs.no_parts.Reads as no-parts-reads
 
 abbrev Inv-loop : tie.InvT-loop
 Inv-loop cs n out₀ i₀ out i = (i ≤ n) × (length (cs .rows) ≡ 128) × (out .count ≤ i) × Pass TabledParts (only isPower) (cs .rows) i out
@@ -21,43 +18,33 @@ Inv-loop cs n out₀ i₀ out i = (i ≤ n) × (length (cs .rows) ≡ 128) × (o
 abbrev μ-loop : tie.MeasureT-loop
 μ-loop cs n out₀ i₀ out i = n - i
 
--- src/lib.rt:126:19
 no-parts-requires : tie.Need-no-parts-requires Inv-loop μ-loop
 no-parts-requires c κs = tt
 
--- src/lib.rt:128:5
 loop-holds : tie.Need-loop-holds Inv-loop μ-loop
 loop-holds c = let z = c .no-parts .ensures .count-is in (omega arith, search long, omega arith, pass-start _ _ (c .no-parts .ensures))
 
--- src/lib.rt:129:17
 mul-c : tie.Need-mul-c Inv-loop μ-loop
 mul-c c = omega arith
 
--- src/lib.rt:129:17
 element-copy-out-c : tie.Need-element-copy-out-c Inv-loop μ-loop
 element-copy-out-c c = omega arith
 
--- src/lib.rt:132:13
 mul-c-2 : tie.Need-mul-c-2 Inv-loop μ-loop
 mul-c-2 c = omega arith
 
--- src/lib.rt:132:13
 element-set-from-c : tie.Need-element-set-from-c Inv-loop μ-loop
 element-set-from-c c = omega arith
 
--- src/lib.rt:133:25
 add-out : tie.Need-add-out Inv-loop μ-loop
 add-out c = omega arith
 
--- src/lib.rt:135:9
 add-i : tie.Need-add-i Inv-loop μ-loop
 add-i c = omega arith
 
--- src/lib.rt:128:5
 loop-less : tie.Need-loop-less Inv-loop μ-loop
 loop-less c = omega arith
 
--- src/lib.rt:128:5
 loop-again : tie.Need-loop-again Inv-loop μ-loop
 loop-again c =
     let s = c .before .before .before .before .loop .inv .3 in
@@ -66,7 +53,6 @@ loop-again c =
     (λ v. (omega arith, omega arith, rw (v .1) (omega arith), rw (v .1) (pass-skip _ s (only-no _ _ (ne-eqb _ 0 (v .0 .left))) (omega arith))))
     (c .if1 .came)
 
--- src/lib.rt:121:1
 returns : tie.Need-returns Inv-loop μ-loop
 returns c = holds-as (keep-gather _ _) (pass-end (c .before .before .before .args .t1 .count) (c .before .loop .inv .3) (omega arith))
 

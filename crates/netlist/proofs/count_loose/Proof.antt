@@ -1,5 +1,5 @@
 -- `netlist::count_loose` meets its contract: the loose points among the rows passed.
-use mathlib.Core.Path.{_≡_, refl, sym, ap, _∙_}
+use mathlib.Core.Path.{_≡_, refl, ap, _∙_}
 use mathlib.Core.Bool.{Bool}
 use mathlib.Core.List.{List}
 use mathlib.Core.Logic.{⊎-elim}
@@ -14,8 +14,6 @@ use Rattle.sheet.specs.declared.Joint.{Joint}
 use Rattle.netlist.specs.Listing.{looseIn}
 use Rattle.netlist.proofs.count_loose.Statement.{statement}
 use Rattle.netlist.proofs.count_loose.Tie as tie
-use Rattle.netlist.proofs.count_loose.Reads as reads
-use Rattle.netlist.proofs.count_loose.Lts as lts
 
 abbrev isLoose : Joint → Bool
 isLoose j = eqb (j .count) 1
@@ -29,31 +27,24 @@ Inv-loop js n loose₀ i₀ loose i = (i ≤ n) × (length (js .rows) ≡ 1408) 
 abbrev μ-loop : tie.MeasureT-loop
 μ-loop js n loose₀ i₀ loose i = n - i
 
--- src/lib.rt:65:5
 loop-holds : tie.Need-loop-holds Inv-loop μ-loop
 loop-holds c = (omega arith, search long, omega arith, pass-start _ _ refl)
 
--- src/lib.rt:66:17
 mul-j : tie.Need-mul-j Inv-loop μ-loop
 mul-j c = omega arith
 
--- src/lib.rt:66:17
 element-copy-out-j : tie.Need-element-copy-out-j Inv-loop μ-loop
 element-copy-out-j c = omega arith
 
--- src/lib.rt:68:13
 add-loose : tie.Need-add-loose Inv-loop μ-loop
 add-loose c = omega arith
 
--- src/lib.rt:70:9
 add-i : tie.Need-add-i Inv-loop μ-loop
 add-i c = omega arith
 
--- src/lib.rt:65:5
 loop-less : tie.Need-loop-less Inv-loop μ-loop
 loop-less c = omega arith
 
--- src/lib.rt:65:5
 loop-again : tie.Need-loop-again Inv-loop μ-loop
 loop-again c =
     let s = c .before .before .before .before .loop .inv .3 in
@@ -62,7 +53,6 @@ loop-again c =
     (λ v. (omega arith, omega arith, rw (v .1) (omega arith), rw (v .1) (pass-skip _ s (only-no _ _ (ne-eqb _ 1 (v .0 .left))) (omega arith))))
     (c .if1 .came)
 
--- src/lib.rt:58:1
 returns : tie.Need-returns Inv-loop μ-loop
 unfolding looseIn
 returns c =

@@ -5,15 +5,10 @@ use Rattle.netlist.specs.Listing.{looseIn, looseOf}
 use borrow.Author.Needs.{needs}
 use Rattle.netlist.proofs.loose_on.Statement.{statement}
 use Rattle.netlist.proofs.loose_on.Tie as tie
-use Rattle.netlist.proofs.loose_on.Reads as reads
-use Rattle.netlist.proofs.loose_on.Lts as lts
-use Rattle.netlist.proofs.count_loose.Reads as count-loose-reads
 
--- src/lib.rt:81:5
 count-loose-requires : tie.Need-count-loose-requires
 count-loose-requires c κs = search needs
 
--- src/lib.rt:76:1
 returns : tie.Need-returns
 unfolding looseOf
 returns c = c .count-loose .ensures ∙ ap looseIn (lawful-joints (c .before .before .pre))

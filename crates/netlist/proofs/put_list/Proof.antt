@@ -8,23 +8,16 @@ use Rattle.netlist.proofs.Lengths.{length-list}
 use borrow.Author.Needs.{needs}
 use Rattle.netlist.proofs.put_list.Statement.{statement}
 use Rattle.netlist.proofs.put_list.Tie as tie
-use Rattle.netlist.proofs.put_list.Reads as reads
-use Rattle.netlist.proofs.put_list.Lts as lts
-use Rattle.netlist.proofs.lines.put_lines.Reads as put-lines-reads
 
--- src/lib.rt:30:9
 put-lines-requires : tie.Need-put-lines-requires
 put-lines-requires c κs = (c .before .before .pre .0, omega (arith, c .before .before .pre .1, length-list (nth (c .before .before .args .numbers)) (map entry (componentRows (c .before .before .args .cs)))))
 
--- src/lib.rt:31:5
 put-lines-requires-2 : tie.Need-put-lines-requires-2
 put-lines-requires-2 c κs = (c .before .before .before .before .before .before .pre .0, omega (arith, c .before .before .before .before .before .before .pre .1, length-list (nth (c .before .before .before .before .before .before .args .numbers)) (map entry (componentRows (c .before .before .before .before .before .before .args .cs))), c .before .before .before .put-lines .ensures .behind))
 
--- src/lib.rt:26:1
 same-length : tie.Need-same-length
 same-length c = search needs
 
--- src/lib.rt:26:1
 returns : tie.Need-returns
 unfolding listWith
 returns c = put-then (c .before .before .before .before .before .before .put-lines .ensures) (c .before .before .put-lines2 .ensures)

@@ -1,6 +1,5 @@
 -- `netlist::write_list_on` meets its contract: the first run tells the length, whatever the buffer, and the second is made only where all fits.
 use mathlib.Core.Path.{ap}
-use mathlib.Core.List.{map}
 use native.Mathlib.Omega.{arith}
 use lib.ListN.{length}
 use Rattle.sheet.specs.Drawings.{listsOf}
@@ -11,38 +10,28 @@ use Rattle.netlist.proofs.Buffers.{list-is, answer-fits, answer-long, b
 use borrow.Author.Needs.{needs}
 use Rattle.netlist.proofs.write_list_on.Statement.{statement}
 use Rattle.netlist.proofs.write_list_on.Tie as tie
-use Rattle.netlist.proofs.write_list_on.Reads as reads
-use Rattle.netlist.proofs.write_list_on.Lts as lts
-use Rattle.net_numbers.proofs.pad_numbers.Reads as pad-numbers-reads
-use Rattle.netlist.proofs.put_list.Reads as put-list-reads
 
--- src/lib.rt:40:9
 pad-numbers-requires : tie.Need-pad-numbers-requires
 pad-numbers-requires c κs = search needs
 
--- src/lib.rt:43:22
 slice-aggregate-put-list : tie.Need-slice-aggregate-put-list
 slice-aggregate-put-list c = search needs
 
--- src/lib.rt:43:9
 put-list-requires : tie.Need-put-list-requires
 put-list-requires c κs =
     let s = c .before .before .before .before in
     let is = list-is (listsOf (s .args .d)) (c .before .before .pad-numbers .ensures) in
     (s .pre .rule1 .component-room, omega (arith, list-room (s .pre) (owned (s .args .d) _ (s .good .0 .1 .1)), ap length is))
 
--- src/lib.rt:45:9
 put-list-requires-2 : tie.Need-put-list-requires-2
 put-list-requires-2 c κs =
     let s = c .before .before .before .before .before .before .before .before in
     let is = list-is (listsOf (s .args .d)) (c .before .before .before .before .before .before .pad-numbers .ensures) in
     (s .pre .rule1 .component-room, omega (arith, list-room (s .pre) (owned (s .args .d) _ (s .good .0 .1 .1)), ap length is))
 
--- src/lib.rt:46:9
 same-length : tie.Need-same-length
 same-length c = search needs
 
--- src/lib.rt:46:9
 returns : tie.Need-returns
 returns c =
     let s = c .before .before .before .before .before .before .before .before .before .before .before in
@@ -51,7 +40,6 @@ returns c =
     let fits = c .before .before .before .before .if1 .taken in
     (answer-fits first (length (s .args .out .now)) fits, buffer-fits first (put-as is (c .before .before .put-list2 .ensures)) fits)
 
--- src/lib.rt:35:1
 returns-2 : tie.Need-returns-2
 returns-2 c =
     let s = c .before .before .before .before .before .before .before in

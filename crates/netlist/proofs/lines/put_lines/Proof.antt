@@ -11,10 +11,6 @@ use Rattle.netlist.specs.Listing.{entry, linesFrom, nth}
 use Rattle.netlist.proofs.Rows.{blank, lines-step, lines-part, lines-end}
 use Rattle.netlist.proofs.lines.put_lines.Statement.{statement}
 use Rattle.netlist.proofs.lines.put_lines.Tie as tie
-use Rattle.netlist.proofs.lines.put_lines.Reads as reads
-use Rattle.netlist.proofs.lines.put_lines.Lts as lts
-use Rattle.netlist.proofs.lines.pads_in.Reads as pads-in-reads
-use Rattle.netlist.proofs.lines.put_part.Reads as put-part-reads
 
 abbrev Inv-loop : tie.InvT-loop
 Inv-loop out₀ at kind cs numbers count next₀ pad₀ i₀ out next pad i =
@@ -24,74 +20,57 @@ Inv-loop out₀ at kind cs numbers count next₀ pad₀ i₀ out next pad i =
 abbrev μ-loop : tie.MeasureT-loop
 μ-loop out₀ at kind cs numbers count next₀ pad₀ i₀ out next pad i = count - i
 
--- src/lines.rt:99:5
 loop-holds : tie.Need-loop-holds Inv-loop μ-loop
 loop-holds c = (omega arith, search long, omega arith, refl, todo-all _ _ _)
 
--- src/lines.rt:100:17
 mul-c : tie.Need-mul-c Inv-loop μ-loop
 mul-c c = omega arith
 
--- src/lines.rt:100:17
 element-copy-out-c : tie.Need-element-copy-out-c Inv-loop μ-loop
 element-copy-out-c c = omega arith
 
--- src/lines.rt:101:45
 mul-put-part : tie.Need-mul-put-part Inv-loop μ-loop
 mul-put-part c = omega arith
 
--- src/lines.rt:101:45
 array-read-put-part : tie.Need-array-read-put-part Inv-loop μ-loop
 array-read-put-part c = omega arith
 
--- src/lines.rt:101:67
 add-put-part : tie.Need-add-put-part Inv-loop μ-loop
 add-put-part c = omega arith
 
--- src/lines.rt:101:59
 mul-put-part-2 : tie.Need-mul-put-part-2 Inv-loop μ-loop
 mul-put-part-2 c = omega arith
 
--- src/lines.rt:101:59
 array-read-put-part-2 : tie.Need-array-read-put-part-2 Inv-loop μ-loop
 array-read-put-part-2 c = omega arith
 
--- src/lines.rt:101:85
 add-put-part-2 : tie.Need-add-put-part-2 Inv-loop μ-loop
 add-put-part-2 c = omega arith
 
--- src/lines.rt:101:77
 mul-put-part-3 : tie.Need-mul-put-part-3 Inv-loop μ-loop
 mul-put-part-3 c = omega arith
 
--- src/lines.rt:101:77
 array-read-put-part-3 : tie.Need-array-read-put-part-3 Inv-loop μ-loop
 array-read-put-part-3 c = omega arith
 
--- src/lines.rt:101:9
 put-part-requires : tie.Need-put-part-requires Inv-loop μ-loop
 put-part-requires c κs =
     let l = c .before .before .before .loop in
     let s = c .before .before .before .before .before in
     omega (arith, l .inv .4 .behind, s .pre .1, lines-part (s .args .t3) (nth (s .args .t4)) (s .args .kind) (l .pad) (l .i) (omega (arith, s .pre .0, l .inv .1)) blank (c .before .before .loop-test .taken))
 
--- src/lines.rt:102:16
 pads-in-requires : tie.Need-pads-in-requires Inv-loop μ-loop
 pads-in-requires c κs = tt
 
--- src/lines.rt:102:9
 add-pad : tie.Need-add-pad Inv-loop μ-loop
 add-pad c = omega (arith, c .pads-in .ensures .1)
 
--- src/lines.rt:103:9
 add-i : tie.Need-add-i Inv-loop μ-loop
 add-i c = omega arith
 
--- src/lines.rt:99:5
 loop-less : tie.Need-loop-less Inv-loop μ-loop
 loop-less c = omega arith
 
--- src/lines.rt:99:5
 loop-again : tie.Need-loop-again Inv-loop μ-loop
 loop-again c =
     let l = c .before .before .before .before .before .before .before .loop in
@@ -104,11 +83,9 @@ loop-again c =
       todo-step (l .inv .4) (lines-step (s .args .t3) (nth (s .args .t4)) (s .args .kind) (l .pad) (l .i) (omega (arith, s .pre .0, l .inv .1)) blank (c .before .before .before .before .before .before .loop-test .taken) (c .pads-in .ensures .0)) (p .ensures),
     )
 
--- src/lines.rt:91:1
 same-length : tie.Need-same-length Inv-loop μ-loop
 same-length c = c .before .loop .inv .3
 
--- src/lines.rt:91:1
 returns : tie.Need-returns Inv-loop μ-loop
 returns c =
     let l = c .before .loop in

@@ -6,28 +6,19 @@ use Rattle.netlist.proofs.Spelling.{length-net}
 use borrow.Author.Needs.{needs}
 use Rattle.netlist.proofs.lines.put_net.Statement.{statement}
 use Rattle.netlist.proofs.lines.put_net.Tie as tie
-use Rattle.netlist.proofs.lines.put_net.Reads as reads
-use Rattle.netlist.proofs.lines.put_net.Lts as lts
-use Rattle.text.proofs.put_byte.Reads as put-byte-reads
-use Rattle.text.proofs.put_decimal.Reads as put-decimal-reads
 
--- src/lines.rt:20:9
 put-byte-requires : tie.Need-put-byte-requires
 put-byte-requires c κs = omega (arith, c .before .before .pre, length-net (c .before .before .args .net))
 
--- src/lines.rt:21:9
 put-byte-requires-2 : tie.Need-put-byte-requires-2
 put-byte-requires-2 c κs = omega (arith, c .before .before .before .before .before .before .pre, length-net (c .before .before .before .before .before .before .args .net), c .before .before .before .put-byte .ensures .behind)
 
--- src/lines.rt:22:5
 put-decimal-requires : tie.Need-put-decimal-requires
 put-decimal-requires c κs = omega (arith, c .before .before .before .before .before .before .before .before .before .before .pre, length-net (c .before .before .before .before .before .before .before .before .before .before .args .net), c .before .before .before .before .before .before .before .put-byte .ensures .behind, c .before .before .before .put-byte2 .ensures .behind)
 
--- src/lines.rt:16:1
 same-length : tie.Need-same-length
 same-length c = search needs
 
--- src/lines.rt:16:1
 returns : tie.Need-returns
 unfolding netWord
 returns c = put-then (c .before .before .before .before .before .before .before .before .before .before .put-byte .ensures) (put-then (c .before .before .before .before .before .before .put-byte2 .ensures) (c .before .before .put-decimal .ensures))

@@ -8,53 +8,37 @@ use Rattle.netlist.proofs.Rows.{contact-lines, coil-lines, other-lines,
 use borrow.Author.Needs.{needs}
 use Rattle.netlist.proofs.lines.put_part.Statement.{statement}
 use Rattle.netlist.proofs.lines.put_part.Tie as tie
-use Rattle.netlist.proofs.lines.put_part.Reads as reads
-use Rattle.netlist.proofs.lines.put_part.Lts as lts
-use Rattle.label.proofs.label_part.Reads as label-part-reads
-use Rattle.netlist.proofs.lines.put_relay.Reads as put-relay-reads
-use Rattle.netlist.proofs.lines.put_switch.Reads as put-switch-reads
 
--- src/lines.rt:66:9
 returns : tie.Need-returns
 returns c = put-none _ _ (other-lines (entry (c .before .before .before .args .c)) (c .before .before .before .args .n) (c .before .before .before .args .a) (c .before .before .before .args .b) (c .if1 .taken))
 
--- src/lines.rt:69:28
 slice-aggregate-label-part : tie.Need-slice-aggregate-label-part
 slice-aggregate-label-part c = search needs
 
--- src/lines.rt:69:9
 label-part-requires : tie.Need-label-part-requires
 label-part-requires c κs = search needs
 
--- src/lines.rt:71:13
 put-switch-requires : tie.Need-put-switch-requires
 put-switch-requires c κs = omega (arith, c .before .before .before .before .before .before .before .before .pre, ap length (contact-lines (entry (c .before .before .before .before .before .before .before .before .args .c)) (c .before .before .before .before .before .before .before .before .args .n) (c .before .before .before .before .before .before .before .before .args .a) (c .before .before .before .before .before .before .before .before .args .b) (c .before .before .label-part .ensures) (c .before .before .before .before .before .if1 .left) (c .before .if2 .taken)), length-append (switch (c .before .before .label-part .result .now) 65 (c .before .before .before .before .before .before .before .before .args .n) (c .before .before .before .before .before .before .before .before .args .a)) (switch (c .before .before .label-part .result .now) 66 (c .before .before .before .before .before .before .before .before .args .n) (c .before .before .before .before .before .before .before .before .args .b)))
 
--- src/lines.rt:72:9
 put-switch-requires-2 : tie.Need-put-switch-requires-2
 put-switch-requires-2 c κs = omega (arith, c .before .before .before .before .before .before .before .before .before .before .before .before .pre, ap length (contact-lines (entry (c .before .before .before .before .before .before .before .before .before .before .before .before .args .c)) (c .before .before .before .before .before .before .before .before .before .before .before .before .args .n) (c .before .before .before .before .before .before .before .before .before .before .before .before .args .a) (c .before .before .before .before .before .before .before .before .before .before .before .before .args .b) (c .before .before .before .before .before .before .label-part .ensures) (c .before .before .before .before .before .before .before .before .before .if1 .left) (c .before .before .before .before .before .if2 .taken)), length-append (switch (c .before .before .before .before .before .before .label-part .result .now) 65 (c .before .before .before .before .before .before .before .before .before .before .before .before .args .n) (c .before .before .before .before .before .before .before .before .before .before .before .before .args .a)) (switch (c .before .before .before .before .before .before .label-part .result .now) 66 (c .before .before .before .before .before .before .before .before .before .before .before .before .args .n) (c .before .before .before .before .before .before .before .before .before .before .before .before .args .b)), c .before .before .before .put-switch .ensures .behind)
 
--- src/lines.rt:72:9
 same-length : tie.Need-same-length
 same-length c = search needs
 
--- src/lines.rt:72:9
 returns-2 : tie.Need-returns-2
 returns-2 c = put-as (contact-lines (entry (c .before .before .before .before .before .before .before .before .before .before .before .before .before .before .before .args .c)) (c .before .before .before .before .before .before .before .before .before .before .before .before .before .before .before .args .n) (c .before .before .before .before .before .before .before .before .before .before .before .before .before .before .before .args .a) (c .before .before .before .before .before .before .before .before .before .before .before .before .before .before .before .args .b) (c .before .before .before .before .before .before .before .before .before .label-part .ensures) (c .before .before .before .before .before .before .before .before .before .before .before .before .if1 .left) (c .before .before .before .before .before .before .before .before .if2 .taken)) (put-then (c .before .before .before .before .before .before .put-switch .ensures) (c .before .before .put-switch2 .ensures))
 
--- src/lines.rt:75:9
 put-relay-requires : tie.Need-put-relay-requires
 put-relay-requires c κs = omega (arith, c .before .before .before .before .before .before .before .before .before .pre, ap length (coil-lines (entry (c .before .before .before .before .before .before .before .before .before .args .c)) (c .before .before .before .before .before .before .before .before .before .args .n) (c .before .before .before .before .before .before .before .before .before .args .a) (c .before .before .before .before .before .before .before .before .before .args .b) (c .before .before .before .label-part .ensures) (c .before .before .before .before .before .before .if1 .left) (c .before .if3 .taken)))
 
--- src/lines.rt:75:9
 same-length-2 : tie.Need-same-length-2
 same-length-2 c = search needs
 
--- src/lines.rt:75:9
 returns-3 : tie.Need-returns-3
 returns-3 c = put-as (coil-lines (entry (c .before .before .before .before .before .before .before .before .before .before .before .before .args .c)) (c .before .before .before .before .before .before .before .before .before .before .before .before .args .n) (c .before .before .before .before .before .before .before .before .before .before .before .before .args .a) (c .before .before .before .before .before .before .before .before .before .before .before .before .args .b) (c .before .before .before .before .before .before .label-part .ensures) (c .before .before .before .before .before .before .before .before .before .if1 .left) (c .before .before .before .before .if3 .taken)) (c .before .before .put-relay .ensures)
 
--- src/lines.rt:61:1
 returns-4 : tie.Need-returns-4
 returns-4 c = put-none _ _ (no-lines (entry (c .before .before .before .before .before .before .before .before .args .c)) (c .before .before .before .before .before .before .before .before .args .n) (c .before .before .before .before .before .before .before .before .args .a) (c .before .before .before .before .before .before .before .before .args .b) (c .before .before .before .before .before .if1 .left) (c .before .if2 .left) (c .if3 .left))
 

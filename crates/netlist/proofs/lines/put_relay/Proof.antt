@@ -6,37 +6,25 @@ use Rattle.netlist.proofs.Spelling.{length-relay}
 use borrow.Author.Needs.{needs}
 use Rattle.netlist.proofs.lines.put_relay.Statement.{statement}
 use Rattle.netlist.proofs.lines.put_relay.Tie as tie
-use Rattle.netlist.proofs.lines.put_relay.Reads as reads
-use Rattle.netlist.proofs.lines.put_relay.Lts as lts
-use Rattle.netlist.proofs.lines.put_net.Reads as put-net-reads
-use Rattle.netlist.proofs.lines.put_pin.Reads as put-pin-reads
-use Rattle.text.proofs.put_byte.Reads as put-byte-reads
 
--- src/lines.rt:41:9
 put-byte-requires : tie.Need-put-byte-requires
 put-byte-requires c κs = omega (arith, c .before .before .before .pre, length-relay (c .before .before .before .args .label .now) (c .before .before .before .args .net))
 
--- src/lines.rt:42:9
 put-net-requires : tie.Need-put-net-requires
 put-net-requires c κs = omega (arith, c .before .before .before .before .before .before .before .pre, length-relay (c .before .before .before .before .before .before .before .args .label .now) (c .before .before .before .before .before .before .before .args .net), c .before .before .before .put-byte .ensures .behind)
 
--- src/lines.rt:43:9
 put-pin-requires : tie.Need-put-pin-requires
 put-pin-requires c κs = omega (arith, c .before .before .before .before .before .before .before .before .before .before .before .pre, length-relay (c .before .before .before .before .before .before .before .before .before .before .before .args .label .now) (c .before .before .before .before .before .before .before .before .before .before .before .args .net), c .before .before .before .before .before .before .before .put-byte .ensures .behind, c .before .before .before .put-net .ensures .behind)
 
--- src/lines.rt:44:9
 put-pin-requires-2 : tie.Need-put-pin-requires-2
 put-pin-requires-2 c κs = omega (arith, c .before .before .before .before .before .before .before .before .before .before .before .before .before .before .before .pre, length-relay (c .before .before .before .before .before .before .before .before .before .before .before .before .before .before .before .args .label .now) (c .before .before .before .before .before .before .before .before .before .before .before .before .before .before .before .args .net), c .before .before .before .before .before .before .before .before .before .before .before .put-byte .ensures .behind, c .before .before .before .before .before .before .before .put-net .ensures .behind, c .before .before .before .put-pin .ensures .behind)
 
--- src/lines.rt:45:5
 put-byte-requires-2 : tie.Need-put-byte-requires-2
 put-byte-requires-2 c κs = omega (arith, c .before .before .before .before .before .before .before .before .before .before .before .before .before .before .before .before .before .before .before .pre, length-relay (c .before .before .before .before .before .before .before .before .before .before .before .before .before .before .before .before .before .before .before .args .label .now) (c .before .before .before .before .before .before .before .before .before .before .before .before .before .before .before .before .before .before .before .args .net), c .before .before .before .before .before .before .before .before .before .before .before .before .before .before .before .put-byte .ensures .behind, c .before .before .before .before .before .before .before .before .before .before .before .put-net .ensures .behind, c .before .before .before .before .before .before .before .put-pin .ensures .behind, c .before .before .before .put-pin2 .ensures .behind)
 
--- src/lines.rt:37:1
 same-length : tie.Need-same-length
 same-length c = search needs
 
--- src/lines.rt:37:1
 returns : tie.Need-returns
 unfolding relay
 returns c = put-then (c .before .before .before .before .before .before .before .before .before .before .before .before .before .before .before .before .before .before .put-byte .ensures) (put-then (c .before .before .before .before .before .before .before .before .before .before .before .before .before .before .put-net .ensures) (put-then (c .before .before .before .before .before .before .before .before .before .before .put-pin .ensures) (put-then (c .before .before .before .before .before .before .put-pin2 .ensures) (c .before .before .put-byte2 .ensures))))

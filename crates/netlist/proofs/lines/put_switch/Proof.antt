@@ -6,37 +6,25 @@ use Rattle.netlist.proofs.Spelling.{length-switch}
 use borrow.Author.Needs.{needs}
 use Rattle.netlist.proofs.lines.put_switch.Statement.{statement}
 use Rattle.netlist.proofs.lines.put_switch.Tie as tie
-use Rattle.netlist.proofs.lines.put_switch.Reads as reads
-use Rattle.netlist.proofs.lines.put_switch.Lts as lts
-use Rattle.netlist.proofs.lines.put_net.Reads as put-net-reads
-use Rattle.netlist.proofs.lines.put_pin.Reads as put-pin-reads
-use Rattle.text.proofs.put_byte.Reads as put-byte-reads
 
--- src/lines.rt:53:9
 put-byte-requires : tie.Need-put-byte-requires
 put-byte-requires c κs = omega (arith, c .before .before .before .pre, length-switch (c .before .before .before .args .label .now) (c .before .before .before .args .pin) (c .before .before .before .args .c) (c .before .before .before .args .net))
 
--- src/lines.rt:54:9
 put-pin-requires : tie.Need-put-pin-requires
 put-pin-requires c κs = omega (arith, c .before .before .before .before .before .before .before .pre, length-switch (c .before .before .before .before .before .before .before .args .label .now) (c .before .before .before .before .before .before .before .args .pin) (c .before .before .before .before .before .before .before .args .c) (c .before .before .before .before .before .before .before .args .net), c .before .before .before .put-byte .ensures .behind)
 
--- src/lines.rt:55:9
 put-net-requires : tie.Need-put-net-requires
 put-net-requires c κs = omega (arith, c .before .before .before .before .before .before .before .before .before .before .before .pre, length-switch (c .before .before .before .before .before .before .before .before .before .before .before .args .label .now) (c .before .before .before .before .before .before .before .before .before .before .before .args .pin) (c .before .before .before .before .before .before .before .before .before .before .before .args .c) (c .before .before .before .before .before .before .before .before .before .before .before .args .net), c .before .before .before .before .before .before .before .put-byte .ensures .behind, c .before .before .before .put-pin .ensures .behind)
 
--- src/lines.rt:56:9
 put-net-requires-2 : tie.Need-put-net-requires-2
 put-net-requires-2 c κs = omega (arith, c .before .before .before .before .before .before .before .before .before .before .before .before .before .before .before .pre, length-switch (c .before .before .before .before .before .before .before .before .before .before .before .before .before .before .before .args .label .now) (c .before .before .before .before .before .before .before .before .before .before .before .before .before .before .before .args .pin) (c .before .before .before .before .before .before .before .before .before .before .before .before .before .before .before .args .c) (c .before .before .before .before .before .before .before .before .before .before .before .before .before .before .before .args .net), c .before .before .before .before .before .before .before .before .before .before .before .put-byte .ensures .behind, c .before .before .before .before .before .before .before .put-pin .ensures .behind, c .before .before .before .put-net .ensures .behind)
 
--- src/lines.rt:57:5
 put-byte-requires-2 : tie.Need-put-byte-requires-2
 put-byte-requires-2 c κs = omega (arith, c .before .before .before .before .before .before .before .before .before .before .before .before .before .before .before .before .before .before .before .pre, length-switch (c .before .before .before .before .before .before .before .before .before .before .before .before .before .before .before .before .before .before .before .args .label .now) (c .before .before .before .before .before .before .before .before .before .before .before .before .before .before .before .before .before .before .before .args .pin) (c .before .before .before .before .before .before .before .before .before .before .before .before .before .before .before .before .before .before .before .args .c) (c .before .before .before .before .before .before .before .before .before .before .before .before .before .before .before .before .before .before .before .args .net), c .before .before .before .before .before .before .before .before .before .before .before .before .before .before .before .put-byte .ensures .behind, c .before .before .before .before .before .before .before .before .before .before .before .put-pin .ensures .behind, c .before .before .before .before .before .before .before .put-net .ensures .behind, c .before .before .before .put-net2 .ensures .behind)
 
--- src/lines.rt:49:1
 same-length : tie.Need-same-length
 same-length c = search needs
 
--- src/lines.rt:49:1
 returns : tie.Need-returns
 unfolding switch
 returns c = put-then (c .before .before .before .before .before .before .before .before .before .before .before .before .before .before .before .before .before .before .put-byte .ensures) (put-then (c .before .before .before .before .before .before .before .before .before .before .before .before .before .before .put-pin .ensures) (put-then (c .before .before .before .before .before .before .before .before .before .before .put-net .ensures) (put-then (c .before .before .before .before .before .before .put-net2 .ensures) (c .before .before .put-byte2 .ensures))))
