@@ -17,7 +17,7 @@ use Rattle.sheet.specs.declared.Wires.{Wires}
 use Rattle.sheet.specs.declared.Components.{Components}
 use Rattle.sheet.specs.Parts.{PartFits, pads, touches, ahead}
 use Rattle.sheet.specs.Drawings.{Sheet, componentRows}
-use Rattle.sheet.specs.Edits.{Placed, gone, place, placeAll}
+use Rattle.sheet.specs.Edits.{Placed, place, placeAll}
 use Rattle.wires.specs.declared.Grown.{Grown}
 use Rattle.wires.specs.Tables.{Grows, Cut}
 use Rattle.wires.proofs.Growing.{grows-room}

@@ -18,7 +18,7 @@ use Rattle.sheet.specs.Merge.{merge}
 use Rattle.sheet.specs.Run.{addWire}
 use Rattle.sheet.specs.Parts.{PartFits, pads, padsOf, ahead}
 use Rattle.sheet.specs.Drawings.{Sheet, wireRows, componentRows}
-use Rattle.sheet.specs.Edits.{Outcome, wire, place, remove, placeAll, turn, hits}
+use Rattle.sheet.specs.Edits.{wire, place, remove, placeAll, turn, hits}
 use Rattle.sheet.proofs.Run.{drawn-idle, drawn-added}
 use Rattle.wires.specs.declared.Grown.{Grown}
 use Rattle.wires.specs.Tables.{Tabled, Grows, Cut}

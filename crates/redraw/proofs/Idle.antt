@@ -8,7 +8,6 @@ use mathlib.Core.Path.{_≡_, refl, sym, ap, subst, _∙_}
 use lib.Dec.{T, eqb}
 use lib.IntN.{ℤ}
 use lib.Signed.{leZ, ≤ℤ-refl}
-use lib.ListN.{length}
 use Rattle.lists.specs.Lists.{_∈_}
 use Rattle.lists.proofs.Lists.{length-keep}
 use Rattle.lists.proofs.Tests.{agree}
@@ -22,7 +21,7 @@ use Rattle.sheet.specs.Parts.{padsOf, turnedRight, mirrored}
 use Rattle.sheet.specs.Drawings.{Sheet, Sized, listsOf, drawn, tallyOf}
 use Rattle.sheet.specs.Wiring.{Room}
 use Rattle.sheet.specs.Rules.{Lawful}
-use Rattle.sheet.specs.Edits.{wire, place, remove, delete, meetsPart, meetsWire, hits, turnRight, mirror}
+use Rattle.sheet.specs.Edits.{wire, remove, delete, meetsPart, meetsWire, hits, turnRight, mirror}
 use Rattle.sheet.proofs.Rules.{lawful-good, lawful-room, lawful-drawn, drawn-lists}
 use Rattle.sheet.proofs.Edits.{wire-again, remove-nothing}
 use Rattle.sheet.proofs.Run.{drawn-idle}

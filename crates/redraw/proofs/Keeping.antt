@@ -3,14 +3,14 @@ use Prim.Native.Nat.{ℕ}
 use mathlib.Core.Bool.{false}
 use mathlib.Core.Path.{_≡_, subst}
 use lib.Dec.{T}
-use Rattle.lists.specs.Lists.{_∈_, any}
+use Rattle.lists.specs.Lists.{any}
 use Rattle.lists.proofs.Tests.{passes}
 use Rattle.lists.proofs.Tables.{blank-holds}
 use Rattle.symbol.specs.declared.Point.{Point}
 use Rattle.sheet.specs.declared.Component.{Component}
 use Rattle.sheet.specs.declared.Drawing.{Drawing}
 use Rattle.sheet.specs.Parts.{PartFits, touches}
-use Rattle.sheet.specs.Drawings.{Sheet, Sized, listsOf}
+use Rattle.sheet.specs.Drawings.{Sheet, Sized}
 use Rattle.sheet.specs.Wiring.{Good}
 use Rattle.sheet.specs.Rules.{Lawful}
 use Rattle.sheet.specs.Edits.{place}
