@@ -2,3 +2,4 @@
 mod Lengths
 mod Runs
 mod Walk
+mod Examples
