@@ -3,18 +3,20 @@
 use crate::drawings::component;
 use crate::drawings::components;
 use crate::drawings::empty;
+use crate::drawings::full_wires;
 use crate::drawings::joint;
 use crate::drawings::joints;
 use crate::drawings::wire;
-use crate::drawings::wired;
 use crate::drawings::wires;
 use crate::print::put;
 use crate::print::put_count;
 use crate::print::put_edited;
+use crate::print::put_tally;
 use crate::print::put_told;
 use crate::steps::run;
 use label::Label;
 use label::label_of;
+use lending::tally_after_wire;
 use orientation::RotMirror;
 use schematic::add_component;
 use schematic::add_wire;
@@ -23,6 +25,7 @@ use schematic::mirror_component_at_point;
 use schematic::rotate_component_at_point;
 use sheet::Drawing;
 use sheet::Tally;
+use sheet::Wire;
 
 const NINES: Tally = Tally {
     wires: 9,
@@ -76,125 +79,123 @@ fn all_wrong(d: Drawing) {
     put(b"\n");
 }
 
-// A lawful drawing, and drawings that break one rule each, the first of those that they break.
+// h 0 0 100 and a second wire, of which so many count, with joints at x1 and x2 of which so many count, by coordinates plus 6,000.
+fn wired(second: Wire, count: usize, x1: u16, x2: u16, ends: u16, points: usize) {
+    let ws = wires(wire(false, 6000, 6000, 6100), second, count);
+    let js = joints(joint(x1, 6000, 1), joint(x2, 6000, ends), points);
+    let e = empty();
+    let cs = e.components;
+    all_wrong(Drawing {
+        wires: ws,
+        components: cs,
+        joints: js,
+    });
+}
+
+// A lawful drawing, and drawings that break a rule, the first of those that they break.
 pub(crate) fn damaged() {
-    let a = wire(false, 6000, 6000, 6100);
-    let p = joint(6000, 6000, 1);
-    let q = joint(6100, 6000, 1);
     put(b"# lawful\n");
-    all_wrong(wired(wires(a, wire(false, 0, 0, 0), 1), joints(p, q, 2)));
+    let none = wire(false, 0, 0, 0);
+    wired(none, 1, 6000, 6100, 1, 2);
     put(
         b"# rule 1: 513 wires; a wire behind the count; a wire from 5 to 5; a joint behind the count\n",
     );
-    all_wrong(wired(wires(a, a, 513), joints(p, q, 2)));
-    all_wrong(wired(wires(a, a, 1), joints(p, q, 2)));
-    all_wrong(wired(wires(wire(false, 6000, 6005, 6005), a, 2), joints(p, q, 2)));
-    all_wrong(wired(wires(a, wire(false, 0, 0, 0), 1), joints(p, q, 1)));
+    wired(none, 513, 6000, 6100, 1, 2);
+    wired(wire(false, 6000, 6100, 6200), 1, 6000, 6100, 1, 2);
+    wired(wire(false, 6000, 6005, 6005), 2, 6000, 6100, 1, 2);
+    wired(none, 1, 6000, 6100, 1, 1);
     put(b"# rules 2 to 4: h 0 0 100 with h 0 50 150, with v 50 0 80, with h 0 100 200\n");
-    all_wrong(wired(wires(a, wire(false, 6000, 6050, 6150), 2), joints(p, q, 2)));
-    all_wrong(wired(wires(a, wire(true, 6050, 6000, 6080), 2), joints(p, q, 2)));
-    all_wrong(wired(wires(a, wire(false, 6000, 6100, 6200), 2), joints(p, q, 2)));
+    wired(wire(false, 6000, 6050, 6150), 2, 6000, 6100, 1, 2);
+    wired(wire(true, 6050, 6000, 6080), 2, 6000, 6100, 1, 2);
+    wired(wire(false, 6000, 6100, 6200), 2, 6000, 6100, 1, 2);
     put(b"# rules 6 and 7: (100,0) with count 2; the joints the other way round\n");
-    let none = wire(false, 0, 0, 0);
-    all_wrong(wired(wires(a, none, 1), joints(p, joint(6100, 6000, 2), 2)));
-    all_wrong(wired(wires(a, none, 1), joints(q, p, 2)));
+    wired(none, 1, 6000, 6100, 2, 2);
+    wired(none, 1, 6100, 6000, 1, 2);
 }
 
-// Components that break rule 5, or 1; then four numbers that are no orientation, and a kind that is none.
-pub(crate) fn outside() {
+// Contacts at (0,0) in an orientation, (300,0) and (350,0), with no joint.
+fn three_contacts(o: RotMirror) {
+    let known = RotMirror(1, 0, 0, 1);
+    let b = component(1, known, 6300, 6000);
+    let c = component(1, known, 6350, 6000);
+    let cs = components(component(1, o, 6000, 6000), b, c, 3);
     let e = empty();
     let ws = e.wires;
     let js = e.joints;
-    let o = RotMirror(1, 0, 0, 1);
-    let a = component(1, o, 6000, 6000);
-    let b = component(1, o, 6300, 6000);
-    let c = component(1, o, 6350, 6000);
+    all_wrong(Drawing {
+        wires: ws,
+        components: cs,
+        joints: js,
+    });
+}
+
+// A component of a kind in an orientation, and the turns asked of that orientation: 4 where it is none.
+fn oriented(name: &[u8], kind: u8, o: RotMirror) {
+    put_told(
+        name,
+        add_component(empty(), kind, o, 0, 0, label_of(b"K1"), NINES),
+    );
+    let r = orientation::rotate_r(o);
+    let l = orientation::rotate_l(o);
+    let m = orientation::mirror(o);
+    put(b"turns");
+    put_count(r.reply as u32);
+    put_count(l.reply as u32);
+    put_count(m.reply as u32);
+    put(b"\n");
+}
+
+pub(crate) fn outside() {
     put(b"# rule 5: contacts at (0,0), (300,0) and (350,0); rule 1: an orientation that is none\n");
-    all_wrong(Drawing {
-        wires: ws,
-        components: components(a, b, c, 3),
-        joints: js,
-    });
-    let d = component(1, RotMirror(1, 0, 0, 0), 6000, 6000);
-    all_wrong(Drawing {
-        wires: ws,
-        components: components(d, b, c, 3),
-        joints: js,
-    });
+    three_contacts(RotMirror(1, 0, 0, 1));
+    three_contacts(RotMirror(1, 0, 0, 0));
     put(b"# orientations that are none of the eight, and a kind that is none\n");
-    let l = label_of(b"K1");
-    put_told(
-        b"1 0 0 0",
-        add_component(e, 1, RotMirror(1, 0, 0, 0), 0, 0, l, NINES),
+    oriented(b"0 0 0 0", 1, RotMirror(0, 0, 0, 0));
+    oriented(b"2 0 0 1", 1, RotMirror(2, 0, 0, 1));
+    oriented(b"-128 0 0 127", 1, RotMirror(-128, 0, 0, 127));
+    oriented(b"kind 255", 255, RotMirror(0, 1, 1, 0));
+}
+
+// A contact at (0, 0) with a label as a caller gives it.
+fn labelled(name: &[u8], bytes: [u8; 16], length: usize) {
+    let e = add_component(
+        empty(),
+        1,
+        RotMirror(1, 0, 0, 1),
+        0,
+        0,
+        Label { bytes, length },
+        NINES,
     );
-    put_told(
-        b"2 0 0 1",
-        add_component(e, 1, RotMirror(2, 0, 0, 1), 0, 0, l, NINES),
-    );
-    put_told(
-        b"-128 0 0 127",
-        add_component(e, 1, RotMirror(-128, 0, 0, 127), 0, 0, l, NINES),
-    );
-    put_told(b"kind 255", add_component(e, 255, o, 0, 0, l, NINES));
+    put(name);
+    put(b"\n");
+    put_edited(e, false);
 }
 
 // "Label: 0 to 16 bytes, each 0x21 to 0x7E": the length tells how many, and bytes behind it say nothing.
 pub(crate) fn labels() {
-    let d = empty();
-    let o = RotMirror(1, 0, 0, 1);
-    put(
-        b"# labels: of 17 bytes, of far more; a zero byte; a space; 0x7F; K1 with bytes behind it\n",
-    );
-    let ks = [b'K'; 16];
-    put_told(
-        b"17",
-        add_component(
-            d,
-            1,
-            o,
-            0,
-            0,
-            Label {
-                bytes: ks,
-                length: 17,
-            },
-            NINES,
-        ),
-    );
-    put_told(
-        b"more",
-        add_component(
-            d,
-            1,
-            o,
-            0,
-            0,
-            Label {
-                bytes: ks,
-                length: 18446744073709551615,
-            },
-            NINES,
-        ),
-    );
-    put_told(
-        b"zero",
-        add_component(d, 1, o, 0, 0, label_of(b"K\0K"), NINES),
-    );
-    put_told(
-        b"space",
-        add_component(d, 1, o, 0, 0, label_of(b"K K"), NINES),
-    );
-    put_told(
-        b"0x7F",
-        add_component(d, 1, o, 0, 0, label_of(b"K\x7f"), NINES),
-    );
-    let mut bytes = [0x20u8; 16];
-    bytes[0] = b'K';
-    bytes[1] = b'1';
-    put_edited(
-        add_component(d, 1, o, 0, 0, Label { bytes, length: 2 }, NINES),
-        false,
-    );
+    put(b"# labels\n");
+    let mut bytes = [b'K'; 16];
+    labelled(b"16 bytes", bytes, 16);
+    labelled(b"17 bytes", bytes, 17);
+    labelled(b"far more", bytes, 18446744073709551615);
+    bytes[2] = 0;
+    labelled(b"a zero byte, behind the length", bytes, 2);
+    labelled(b"and not", bytes, 3);
+    bytes[2] = 0x20;
+    labelled(b"a space", bytes, 3);
+    bytes[2] = 0x7f;
+    labelled(b"0x7F", bytes, 3);
+}
+
+// "The caller lends a tally that is brought up to date in its place": 9 9 9 9 is lent, and stays after a refusal.
+pub(crate) fn lent() {
+    put(b"# a lent tally: 2, 1, 7; a wire of zero length, and a wire\n");
+    put_tally(tally_after_wire(empty(), false, 0, 6, 5));
+    put_tally(tally_after_wire(empty(), true, 6001, 0, 9));
+    put_tally(tally_after_wire(full_wires(), false, 600, 0, 9));
+    put_tally(tally_after_wire(empty(), false, 0, 5, 5));
+    put_tally(tally_after_wire(empty(), false, 0, 0, 100));
 }
 
 // "8: the list is longer than the lent buffer"; "bytes behind it stay. A refusal tells length 0."

@@ -1,5 +1,4 @@
 // Drawings made by hand, row by row.
-ghost use Prim.Native.Nat.{_<_};
 use orientation::RotMirror;
 use sheet::Component;
 use sheet::Components;
@@ -78,7 +77,7 @@ pub(crate) fn empty() -> Drawing {
 }
 
 // Wires and joints, and no component.
-pub(crate) fn wired(ws: Wires, js: Joints) -> Drawing {
+fn wired(ws: Wires, js: Joints) -> Drawing {
     let part = component(0, RotMirror(0, 0, 0, 0), 0, 0);
     Drawing {
         wires: ws,

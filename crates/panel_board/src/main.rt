@@ -3,6 +3,7 @@
 mod calls;
 mod drawings;
 mod print;
+mod shapes;
 mod steps;
 
 use crate::drawings::empty;
@@ -92,5 +93,7 @@ fn main() {
     calls::damaged();
     calls::outside();
     calls::labels();
+    calls::lent();
+    shapes::shapes();
     calls::buffers();
 }
