@@ -1,5 +1,6 @@
-// Document 01's examples through the public calls, and what only calls can show. Behind `#` begins a script from the empty drawing,
-// what stands behind `> ` is a line of it, and the lines up to `.` are what `oracle rows` prints for it.
+// Document 01's examples through the public calls, and what only calls can show. `#` begins an example, what stands behind `> ` is a
+// script line, and the lines up to `.` are what `oracle rows` prints for it. Of the full drawings, which are made by hand, only the
+// answer and the tally are printed; the tally stays at the zeros that were lent until an edit is accepted.
 mod calls;
 mod drawings;
 mod print;
@@ -67,7 +68,7 @@ fn nets() {
     run(empty(), b"n");
 }
 
-// Replies in document 01's order, on drawings of 512 wires and of 128 components, so that 7 applies to each line but the last
+// Replies in document 01's order, on drawings of 512 wires and of 128 components, so that 7 would apply too
 fn order() {
     run(full_wires(), b"h 6001 9 0\nh 600 9 0\nh 600 0 9\nh 600 5 5");
     run(
