@@ -1,0 +1,100 @@
+// Document 01's examples through the public calls, and what only calls can show. `#` begins an example, what stands behind `> ` is a
+// script line, and the lines up to `.` are what `oracle rows` prints for it. Of the full drawings, which are made by hand, only the
+// answer and the tally are printed; the tally stays at the zeros that were lent until an edit is accepted.
+mod calls;
+mod drawings;
+mod print;
+mod shapes;
+mod steps;
+
+use crate::drawings::empty;
+use crate::drawings::full_parts;
+use crate::drawings::full_wires;
+use crate::steps::run;
+
+// "Examples on the drawing board"
+fn board() {
+    run(empty(), b"h 0 0 100\nv 50 0 80\nd 50 40 5");
+    run(empty(), b"h 0 0 100\nv 50 -40 40\nh 0 50 60");
+    run(empty(), b"h 0 0 50\nh 0 50 100");
+    run(empty(), b"h 0 0 100\nv 100 0 50");
+    run(empty(), b"h 0 5 5\nh 0 6 5\nh 6001 0 9\nh 6000 0 9");
+    run(empty(), b"p 1 0 0 0\np 1 0 100 0\np 1 0 101 0\nr 0 0 0");
+    run(empty(), b"p 1 0 0 0\np 1 0 101 0\nr 0 0 60");
+    run(empty(), b"h -100 -200 200\np 1 0 0 0");
+}
+
+// "Edits"
+fn edits() {
+    // "A corner does not" become one wire: a third wire comes and goes
+    run(empty(), b"h 0 0 100\nv 100 0 50\nh 0 100 200\nd 150 0 5");
+    // "past a pad under its middle"; then the contact goes, and the two wires in line are one
+    run(
+        empty(),
+        b"p 1 0 0 0\nh -100 -200 200\nd 1000 1000 0\nd 0 0 0",
+    );
+    // "the new run reaches to their outermost ends", "an end touch included"
+    run(empty(), b"h 0 0 50\nh 0 100 150\nh 0 50 120");
+    // a contact's pads go with it
+    run(
+        empty(),
+        b"h -100 -200 200\nv 100 -90 90\np 1 0 0 0 K1\nr 0 0 0\nm 0 0 0",
+    );
+    // "Only contacts turn or mirror in place; any kind may be placed in any orientation."
+    run(
+        empty(),
+        b"p 0 5 0 0\np 2 7 300 0 K1\np 1 6 0 300 K2\nr 0 0 1000\nm 0 0 1000",
+    );
+    // "A delete, turn or mirror that hits nothing gives 0."
+    run(empty(), b"p 1 0 0 0\nd 51 0 0\nr 0 101 0\nm 0 -101 0");
+}
+
+// "Nets and the list", "Against the Rust"
+fn nets() {
+    run(
+        empty(),
+        b"p 0 0 0 0\np 2 0 0 400 K1\np 1 0 300 0 K1\nv 0 0 300\nh 0 0 200\nv 200 -100 0\nh -100 200 300\nn",
+    );
+    // the Rust forgets that K1's pad C is fed here, in one tree order
+    run(
+        empty(),
+        b"p 0 0 0 0\np 1 3 300 300 K1\nh 300 -100 250\nv 0 0 300\nn",
+    );
+    // a contact without a label and with A and B on one net, a label of 16 bytes
+    run(
+        empty(),
+        b"p 1 0 0 0\np 2 0 300 0 ABCDEFGHIJKLMNOP\nh 100 -50 50\nn",
+    );
+    run(empty(), b"n");
+}
+
+// Replies in document 01's order, on drawings of 512 wires and of 128 components, so that 7 would apply too
+fn order() {
+    run(full_wires(), b"h 6001 9 0\nh 600 9 0\nh 600 0 9\nh 600 5 5");
+    run(
+        full_parts(),
+        b"p 3 8 9999 0 \x7f\np 0 8 9999 0 \x7f\np 0 0 9999 0 \x7f\np 0 0 0 0 \x7f\np 0 0 0 0 K\np 0 0 100 1700 K\nd 0 0 0",
+    );
+    run(
+        empty(),
+        b"d 6001 0 1001\nr 0 -6001 -1\nm 0 0 1001\nd 0 0 -1\nd 6000 -6000 1000",
+    );
+    // a turn may lack room: the contact's pads would split two wires more
+    run(
+        full_wires(),
+        b"d -200 511 0\nd -200 510 0\np 1 0 0 -200\nv -100 -160 -140\nh -200 90 110\nr 0 -200 0",
+    );
+}
+
+fn main() {
+    board();
+    edits();
+    nets();
+    order();
+    calls::damaged();
+    calls::outside();
+    calls::labels();
+    calls::lent();
+    shapes::shapes();
+    calls::buffers();
+}
