@@ -1,3 +1,2 @@
-pub mod Printed
 pub mod Lines
 pub mod Table

@@ -1,17 +1,17 @@
 -- "Examples on the drawing board (● to be proved)". An example is a script from the empty drawing, with all that each of its lines
--- prints: the answer, then the tally and every row (`Printed` tells how).
+-- prints: the answer, then the tally and every row, as `panel_rows` prints them.
 use Prim.Native.String.{String}
 use mathlib.Core.List.{List, [], _∷_, map}
 use mathlib.Core.Path.{_≡_}
-use Rattle.board.specs.Printed.{text}
-use Rattle.board.specs.Lines.{run, emptyDrawing, emptyTally}
+use Rattle.step.specs.Steps.{noTally}
+use Rattle.board.specs.Lines.{run, text, emptyDrawing}
 
 abbrev pub Example : Type 0
 Example = List (String × List String)
 
 -- the lines of the example, through the public calls, print what stands beside them
 abbrev pub Holds : Example → Type 0
-Holds e = run emptyDrawing emptyTally (map (λ l. l .0) e) ≡ map (λ l. text (l .1)) e
+Holds e = run emptyDrawing noTally (map (λ l. l .0) e) ≡ map (λ l. text (l .1)) e
 
 -- each of the examples holds
 pub data All : List Example → Type 0 where
