@@ -17,7 +17,7 @@ use Rattle.script.specs.Grammar.{byte}
 use Rattle.script.specs.Reading.{then, fieldOf}
 use Rattle.check_script.specs.declared.Said.{Said}
 use Rattle.check_script.specs.declared.Said.the-variants.{Unreadable}
-use Rattle.check_script.specs.Grammar.{Table, wires, components, joints}
+use Rattle.check_script.specs.Counts.{Table, wires, components, joints}
 use Rattle.check_script.specs.Reading.{ending, countedOf, countOf}
 
 -- ---- the number and its letter

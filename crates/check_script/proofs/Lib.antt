@@ -4,3 +4,5 @@ pub mod Letters
 pub mod Labels
 pub mod Counts
 pub mod Lines
+pub mod Meaning
+mod Examples

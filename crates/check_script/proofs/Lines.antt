@@ -1,11 +1,14 @@
 -- A line, by its length and its first bytes.
-use mathlib.Core.Path.{_≡_, refl, sym, _∙_}
+use mathlib.Core.Path.{_≡_, refl, sym, ap, _∙_}
 use mathlib.Core.Bool.{Bool, true, false}
 use mathlib.Core.List.{List, [], _∷_}
 use Prim.Native.Nat.{ℕ, _<_, _≤_}
 use native.Mathlib.Omega.{arith}
 use borrow.Author.Tests.{le-leb, lt-leb}
-use lib.ListN.{length, drop}
+use mathlib.Core.Logic.{⊎-elim}
+use lib.ListN.{length, take, drop}
+use lib.Seq.{take-all, length-take-le}
+use Rattle.lists.proofs.Tests.{decide, leb-reads}
 use Rattle.script.specs.Grammar.{byte}
 use Rattle.script.specs.Reading.{behind}
 use Rattle.script.specs.Indexes.{begins}
@@ -17,6 +20,15 @@ use Rattle.check_script.proofs.Letters.{on-byte, off-byte, ended, not-e
 pub too-long : (l : List ℕ) → 80 < length l → saidOf l ≡ Unreadable
 unfolding saidOf
 too-long l h = rw (lt-leb _ _ h)
+
+-- of a line of which only the first 81 bytes are held it gives what it gives of the whole line
+pub said-81 : (l : List ℕ) → saidOf (take 81 l) ≡ saidOf l
+said-81 l = ⊎-elim (λ (le : length l ≤ 80). ap saidOf (take-all 81 l (omega arith))) (λ n. long (omega arith)) (decide (leb-reads (length l) 80))
+  where
+    long : 81 ≤ length l → saidOf (take 81 l) ≡ saidOf l
+    long h =
+        let held : 80 < length (take 81 l) = omega (arith, length-take-le 81 l h) in
+        too-long (take 81 l) held ∙ sym (too-long l h)
 
 -- a row that stands behind the counts
 abbrev behindRow : List ℕ → List ℕ → Said

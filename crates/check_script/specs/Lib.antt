@@ -1,3 +1,4 @@
-pub mod Grammar
+pub mod Counts
 pub mod Reading
 pub mod Indexes
+pub mod Grammar

@@ -1,5 +1,5 @@
 -- `counted` meets its contract, by the sign and the letter.
-use Rattle.check_script.specs.Grammar.{wires, components, joints}
+use Rattle.check_script.specs.Counts.{wires, components, joints}
 use Rattle.check_script.proofs.Counts.{negative, other, count-cast, by-table}
 use Rattle.check_script.proofs.counted.Statement.{statement}
 use Rattle.check_script.proofs.counted.Tie as tie
