@@ -25,7 +25,7 @@ pub fn place(f: Filled, behind: bool) -> usize
 }
 
 // With one row more.
-pub fn more(f: Filled, behind: bool) -> Filled
+pub(crate) fn more(f: Filled, behind: bool) -> Filled
     requires { ⌜ (f .counted < 1408) × (f .used < 1408) ⌝ }
     ensures { λ r. ⌜ r ≡ moreOf f behind ⌝ }
 {
