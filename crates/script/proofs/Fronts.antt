@@ -57,12 +57,12 @@ pub begins-inside : (b : ℕ) (l : List ℕ) (k : ℕ) → begins b (drop k l) �
 begins-inside b l k h = stable (ltb-reads k (length l)) (λ n. clash h (sym (begins-out l k b (omega arith))))
 
 module _ {B : Type 0} (b : ℕ) (f : List ℕ → B) (e : B) where
-  behind-yes : (s : List ℕ) → begins b s ≡ true → behind b s f e ≡ f (drop 1 s)
+  pub behind-yes : (s : List ℕ) → begins b s ≡ true → behind b s f e ≡ f (drop 1 s)
   unfolding begins
   behind-yes [] h = absurd (clash h refl)
   behind-yes (c ∷ s) h = rw h
 
-  behind-no : (s : List ℕ) → begins b s ≡ false → behind b s f e ≡ e
+  pub behind-no : (s : List ℕ) → begins b s ≡ false → behind b s f e ≡ e
   unfolding begins
   behind-no [] h = refl
   behind-no (c ∷ s) h = rw h

@@ -1,6 +1,6 @@
 // Reads one line of a panel script: which command it is, and its numbers. What a line says is the definition
 // of specs/Grammar.antt; `commandOf` is that definition as a function.
-mod numbers;
+pub mod numbers;
 
 ghost use mathlib.Core.Path.{_≡_};
 ghost use lib.ListN.{length, drop};

@@ -24,7 +24,7 @@ pub enum Three {
 }
 
 // Whether the byte `b` stands at an index.
-fn is_at(line: &[u8], at: usize, b: u8) -> bool
+pub fn is_at(line: &[u8], at: usize, b: u8) -> bool
     ensures { λ r. ⌜ r ≡ begins b (drop at (now (line .entry))) ⌝ }
 {
     if at < line.len() {

@@ -1,0 +1,8 @@
+-- What the grammar and the reading come to, and what the proofs of functions use.
+pub mod Ranges
+pub mod Letters
+pub mod Labels
+pub mod Counts
+pub mod Lines
+pub mod Meaning
+mod Examples

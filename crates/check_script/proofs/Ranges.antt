@@ -1,0 +1,123 @@
+-- Numbers that a row can hold: what the two tests of the code say, and what is read by them.
+use mathlib.Core.Path.{_≡_, refl, sym, ap, subst, _∙_}
+use mathlib.Core.Bool.{Bool, true, false, cond}
+use mathlib.Core.List.{List}
+use Prim.Native.Nat.{ℕ, zero, suc, _+_, _-_, _<_, _≤_, _^_}
+use native.Mathlib.Omega.{arith}
+use borrow.Author.Tests.{ltb-true, ltb-false, leb-true, le-leb, lt-leb, lt-ltb, le-ltb}
+use lib.Dec.{T}
+use lib.IntN.{ℤ, pos, negsuc, negℤ, natAbs, subℕ, _+ℤ_}
+use lib.Signed.{ltZ, nonNeg, mag}
+use mir.Syntax.{w8, w16, w32}
+use mir.Val.{SFits, Fits, toZ, ofZ}
+use mir.Facts.{toZ-ofZ, toZ-pos}
+use Rattle.edge.specs.Coordinates.{toℕ, biased}
+use Rattle.edge.proofs.Whole.{sub-pos}
+use Rattle.script.specs.Reading.{Found, found, missing, fieldOf}
+use Rattle.script.proofs.Signs.{back}
+use Rattle.check_script.specs.Reading.{ranged, heldOf}
+
+-- ---- the tests
+
+too-low : (low high : ℕ) (z : ℤ) → ltZ z (negℤ (pos low)) ≡ true → ranged low high z ≡ false
+unfolding ranged
+too-low zero high (pos n) e = absurd (let h = ltb-true n 0 e in let z : ⊥ = omega arith in z)
+too-low (suc k) high (pos n) e = absurd (subst T (sym e) tt)
+too-low zero high (negsuc n) e = le-ltb n 0 (omega arith)
+too-low (suc k) high (negsuc n) e = le-ltb n (suc k) (let h = ltb-true k n e in omega arith)
+
+too-high : (low high : ℕ) (z : ℤ) → ltZ (pos high) z ≡ true → ranged low high z ≡ false
+unfolding ranged
+too-high low high (pos n) e = lt-leb n high (ltb-true high n e)
+too-high low high (negsuc n) e = absurd (subst T (sym e) tt)
+
+between : (low high : ℕ) (z : ℤ) → ltZ z (negℤ (pos low)) ≡ false → ltZ (pos high) z ≡ false → ranged low high z ≡ true
+unfolding ranged
+between low high (pos n) e g = le-leb n high (ltb-false high n g)
+between zero high (negsuc n) e g = absurd (subst T e tt)
+between (suc k) high (negsuc n) e g = lt-ltb n (suc k) (let h = ltb-false k n e in omega arith)
+
+-- ---- what is read, where the code tests the number as the machine holds it
+
+module _ {A : Type 0} (low high : ℕ) (f : ℤ → A) (s : List ℕ) where
+  pub held-none : fieldOf s ≡ missing → missing ≡ heldOf low high f s
+  unfolding heldOf
+  held-none e = rw e
+
+  module _ {z : ℤ} {t : List ℕ} (e : fieldOf s ≡ found z t) (m : mag z < 2 ^ 31) where
+    pub held-low : ltZ (toZ w32 (ofZ w32 z)) (negℤ (pos low)) ≡ true → missing ≡ heldOf low high f s
+    unfolding heldOf
+    held-low l = rw (e, too-low low high z (rw (back z m) at l))
+
+    pub held-high : ltZ (pos high) (toZ w32 (ofZ w32 z)) ≡ true → missing ≡ heldOf low high f s
+    unfolding heldOf
+    held-high h = rw (e, too-high low high z (rw (back z m) at h))
+
+    pub held-in : ltZ (toZ w32 (ofZ w32 z)) (negℤ (pos low)) ≡ false → ltZ (pos high) (toZ w32 (ofZ w32 z)) ≡ false → {a : A} → a ≡ f z → found a t ≡ heldOf low high f s
+    unfolding heldOf
+    held-in l h q = rw (e, q, between low high z (rw (back z m) at l) (rw (back z m) at h))
+
+-- ---- a coordinate, with 6,000 added
+
+lifted : (z : ℤ) → ranged 6000 59535 z ≡ true → (z +ℤ pos 6000 ≡ pos (biased z)) × (biased z ≤ 65535)
+unfolding ranged biased
+lifted (pos n) r = let h = leb-true n 59535 r in (refl, omega arith)
+lifted (negsuc n) r =
+    let h = ltb-true n 6000 r in
+    let e = sub-pos 6000 (suc n) (omega arith) in
+    let q : toℕ (subℕ 6000 (suc n)) ≡ 6000 - suc n = ap toℕ e in
+    (e ∙ ap pos (sym q), omega arith)
+
+module _ (z : ℤ) (m : mag z < 2 ^ 31) (l : ltZ (toZ w32 (ofZ w32 z)) (negℤ (pos 6000)) ≡ false) (h : ltZ (pos 59535) (toZ w32 (ofZ w32 z)) ≡ false) where
+  up : (z +ℤ pos 6000 ≡ pos (biased z)) × (biased z ≤ 65535)
+  up = lifted z (between 6000 59535 z (rw (back z m) at l) (rw (back z m) at h))
+
+  sum : toZ w32 (ofZ w32 z) +ℤ pos 6000 ≡ pos (biased z)
+  sum = rw (back z m) (up .0)
+
+  pub sum-fits : SFits w32 (toZ w32 (ofZ w32 z) +ℤ pos 6000)
+  sum-fits = let k = up .1 in subst (SFits w32) (sym sum) (record { sfits = omega arith })
+
+  read : toZ w32 (ofZ w32 (toZ w32 (ofZ w32 z) +ℤ pos 6000)) ≡ pos (biased z)
+  read = let k = up .1 in ap (λ (y : ℤ). toZ w32 (ofZ w32 y)) sum ∙ toZ-pos w32 (omega arith)
+
+  pub sum-cast : T (nonNeg (toZ w32 (ofZ w32 (toZ w32 (ofZ w32 z) +ℤ pos 6000)))) × Fits w16 (natAbs (toZ w32 (ofZ w32 (toZ w32 (ofZ w32 z) +ℤ pos 6000))))
+  sum-cast = let k = up .1 in subst (λ (y : ℤ). T (nonNeg y) × Fits w16 (natAbs y)) (sym read) (tt, record { fits = omega arith })
+
+  pub sum-is : natAbs (toZ w32 (ofZ w32 (toZ w32 (ofZ w32 z) +ℤ pos 6000))) ≡ biased z
+  sum-is = ap natAbs read
+
+-- ---- a number that is not negative
+
+whole : (z : ℤ) → ranged 0 65535 z ≡ true → T (nonNeg z) × (natAbs z ≡ toℕ z) × (natAbs z ≤ 65535)
+unfolding ranged
+whole (pos n) r = (tt, refl, leb-true n 65535 r)
+whole (negsuc n) r = absurd (let h = ltb-true n 0 r in let y : ⊥ = omega arith in y)
+
+module _ (z : ℤ) (m : mag z < 2 ^ 31) (l : ltZ (toZ w32 (ofZ w32 z)) (pos 0) ≡ false) (h : ltZ (pos 65535) (toZ w32 (ofZ w32 z)) ≡ false) where
+  inside : T (nonNeg z) × (natAbs z ≡ toℕ z) × (natAbs z ≤ 65535)
+  inside = whole z (between 0 65535 z (rw (back z m) at l) (rw (back z m) at h))
+
+  pub whole-cast : T (nonNeg (toZ w32 (ofZ w32 z))) × Fits w16 (natAbs (toZ w32 (ofZ w32 z)))
+  whole-cast = let k = inside .2 in rw (back z m) (inside .0, record { fits = omega arith })
+
+  pub whole-is : natAbs (toZ w32 (ofZ w32 z)) ≡ toℕ z
+  whole-is = rw (back z m) (inside .1)
+
+-- ---- a number of 8 bits with its sign
+
+small : (z : ℤ) → ranged 128 127 z ≡ true → SFits w8 z
+unfolding ranged
+small (pos n) r = let h = leb-true n 127 r in record { sfits = omega arith }
+small (negsuc n) r = let h = ltb-true n 128 r in record { sfits = omega arith }
+
+module _ (z : ℤ) (m : mag z < 2 ^ 31) (l : ltZ (toZ w32 (ofZ w32 z)) (negℤ (pos 128)) ≡ false) (h : ltZ (pos 127) (toZ w32 (ofZ w32 z)) ≡ false) where
+  pub sign-cast : SFits w8 (toZ w32 (ofZ w32 z))
+  sign-cast = rw (back z m) (small z (between 128 127 z (rw (back z m) at l) (rw (back z m) at h)))
+
+  pub sign-is : toZ w8 (ofZ w8 (toZ w32 (ofZ w32 z))) ≡ z
+  sign-is = toZ-ofZ sign-cast ∙ back z m
+
+-- such a number, handed on, comes out of its bits as it was
+pub back8 : (z : ℤ) → mag z < 2 ^ 7 → toZ w8 (ofZ w8 z) ≡ z
+back8 z h = toZ-ofZ (record { sfits = h })

@@ -1,0 +1,4 @@
+pub mod Counts
+pub mod Reading
+pub mod Indexes
+pub mod Grammar

@@ -1,0 +1,122 @@
+// Numbers of a line that a row can hold, each read from an index of the line on.
+ghost use mathlib.Core.Path.{_≡_};
+ghost use lib.ListN.{drop};
+ghost use Rattle.check_script.specs.Reading.{coordinateOf, naturalOf, signOf, turnOf, letterOf, directionOf};
+ghost use Rattle.check_script.specs.Indexes.{naturalFound, signFound, turnFound, directionFound};
+use orientation::RotMirror;
+use script::numbers;
+use script::numbers::Number;
+
+// A number of 16 bits, and the index behind it.
+pub enum Natural {
+    Read(u16, usize),
+    Missing,
+}
+
+// A number of 8 bits with its sign, and the index behind it.
+pub enum Sign {
+    Of(i8, usize),
+    None,
+}
+
+// Four of these.
+pub enum Turn {
+    Is(RotMirror, usize),
+    IsNot,
+}
+
+// Whether a wire is vertical, and the index behind the letter that says it.
+pub enum Direction {
+    Vertical(bool, usize),
+    Neither,
+}
+
+// A space and a coordinate, as rows hold it.
+pub fn coordinate_at(line: &[u8], at: usize) -> Natural
+    ensures { λ r. ⌜ naturalFound (now (line .entry)) r ≡ coordinateOf (drop at (now (line .entry))) ⌝ }
+{
+    let Number::Read(z, next) = numbers::field_at(line, at) else {
+        return Natural::Missing;
+    };
+    if z < -6000 {
+        return Natural::Missing;
+    }
+    if 59535 < z {
+        return Natural::Missing;
+    }
+    Natural::Read((z + 6000) as u16, next)
+}
+
+// A space and a number that is not negative.
+pub fn natural_at(line: &[u8], at: usize) -> Natural
+    ensures { λ r. ⌜ naturalFound (now (line .entry)) r ≡ naturalOf (drop at (now (line .entry))) ⌝ }
+{
+    let Number::Read(z, next) = numbers::field_at(line, at) else {
+        return Natural::Missing;
+    };
+    if z < 0 {
+        return Natural::Missing;
+    }
+    if 65535 < z {
+        return Natural::Missing;
+    }
+    Natural::Read(z as u16, next)
+}
+
+// A space and a number of 8 bits.
+pub fn sign_at(line: &[u8], at: usize) -> Sign
+    ensures { λ r. ⌜ signFound (now (line .entry)) r ≡ signOf (drop at (now (line .entry))) ⌝ }
+{
+    let Number::Read(z, next) = numbers::field_at(line, at) else {
+        return Sign::None;
+    };
+    if z < -128 {
+        return Sign::None;
+    }
+    if 127 < z {
+        return Sign::None;
+    }
+    Sign::Of(z as i8, next)
+}
+
+// Four of these.
+pub fn turn_at(line: &[u8], at: usize) -> Turn
+    ensures { λ r. ⌜ turnFound (now (line .entry)) r ≡ turnOf (drop at (now (line .entry))) ⌝ }
+{
+    let Sign::Of(a, k) = sign_at(line, at) else {
+        return Turn::IsNot;
+    };
+    let Sign::Of(b, l) = sign_at(line, k) else {
+        return Turn::IsNot;
+    };
+    let Sign::Of(c, m) = sign_at(line, l) else {
+        return Turn::IsNot;
+    };
+    let Sign::Of(d, next) = sign_at(line, m) else {
+        return Turn::IsNot;
+    };
+    Turn::Is(RotMirror(a, b, c, d), next)
+}
+
+// `h` or `v`.
+fn letter_at(line: &[u8], at: usize) -> Direction
+    ensures { λ r. ⌜ directionFound (now (line .entry)) r ≡ letterOf (drop at (now (line .entry))) ⌝ }
+{
+    if numbers::is_at(line, at, b'h') {
+        return Direction::Vertical(false, at + 1);
+    }
+    if numbers::is_at(line, at, b'v') {
+        return Direction::Vertical(true, at + 1);
+    }
+    Direction::Neither
+}
+
+// A space and `h` or `v`.
+pub fn direction_at(line: &[u8], at: usize) -> Direction
+    ensures { λ r. ⌜ directionFound (now (line .entry)) r ≡ directionOf (drop at (now (line .entry))) ⌝ }
+{
+    if numbers::is_at(line, at, b' ') {
+        return letter_at(line, at + 1);
+    }
+    Direction::Neither
+}

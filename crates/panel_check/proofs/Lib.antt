@@ -1,0 +1,2 @@
+-- Laws that the proofs of functions use.
+pub mod Lengths

@@ -1,0 +1,43 @@
+-- The row is put in where there is room.
+use native.Mathlib.Omega.{arith}
+use Rattle.sketch.specs.Sketches.{jointsAs, withJoint}
+use Rattle.sketch.proofs.Adding.{room-left, row-in, row-out}
+use borrow.Author.Needs.{needs}
+use Rattle.sketch.proofs.add_joint_row.Statement.{statement}
+use Rattle.sketch.proofs.add_joint_row.Tie as tie
+
+has-room-requires : tie.Need-has-room-requires
+has-room-requires c κs = search needs
+
+more-requires : tie.Need-more-requires
+more-requires c κs = room-left 1408 (c .before .before .before .args .s .joints) (c .before .has-room .ensures) (c .if1 .taken) (omega arith)
+
+place-requires : tie.Need-place-requires
+place-requires c κs = search needs
+
+count-after-requires : tie.Need-count-after-requires
+count-after-requires c κs = search needs
+
+put-joint-requires : tie.Need-put-joint-requires
+put-joint-requires c κs = search needs
+
+returns : tie.Need-returns
+returns c =
+    let a = c .before .before .before .before .before .before .before .before .before .args in
+    row-in (a .s) (jointsAs (a .s)) 1408 (a .s .joints) (a .s .drawing .joints .rows) (a .s .drawing .joints .count) (a .behind) (a .j)
+    (c .before .before .before .before .before .before .before .has-room .ensures) (c .before .before .before .before .before .before .if1 .taken) (c .before .before .before .before .before .more .ensures) (c .before .before .place .ensures) (c .before .count-after .ensures) (c .put-joint .ensures)
+
+returns-2 : tie.Need-returns-2
+returns-2 c = let a = c .before .before .before .args in row-out (a .s) (withJoint (a .s) (a .behind) (a .j)) 1408 (a .s .joints) (c .before .has-room .ensures) (c .if1 .left)
+
+pub add-joint-row-spec : {M : Type 1} → statement M
+add-joint-row-spec =
+    tie.close
+    (tie.spec
+    has-room-requires
+    more-requires
+    place-requires
+    count-after-requires
+    put-joint-requires
+    returns
+    returns-2)
