@@ -9,7 +9,7 @@ mod theirs;
 use oracle::original::rows_of;
 use oracle::script::Edit;
 use ours::{Call, Ours};
-use script::{numbered, Board, EditKind, Numbered};
+use script::{numbered, sizes, Board, EditKind, Numbered};
 use table::Table;
 
 const SIZES: [usize; 4] = [64, 128, 256, 512];
@@ -35,9 +35,25 @@ fn main() {
             time_edits(&mut table, name, size, &board, &ours, &edits);
         }
         time_looks(&mut table, size, &board, &ours);
-        eprintln!("{size} wires timed");
+        time_tables(&mut table, size, &mut board, &ours, places);
+        if size == SIZES[0] {
+            assert_all_made(&mut board, &ours);
+        }
+        eprintln!("{size} wires timed, drawn by {} edits", script.len());
     }
     table.print();
+}
+
+fn assert_all_made(board: &mut Board, ours: &Ours) {
+    for (kind, _) in EDITS {
+        let edit = numbered(&board.edits_of(kind, 1)[0]);
+        for call in [Call::EditOn, Call::Edit] {
+            ours.assert_all_made(call, edit);
+        }
+    }
+    for call in [Call::CheckPlainly, Call::Check, Call::ListOn, Call::List, Call::LooseOn, Call::Loose] {
+        ours.assert_all_made(call, Numbered::NONE);
+    }
 }
 
 /// One kind of edit at several places, below the public call and by it.
@@ -57,6 +73,29 @@ fn time_edits(table: &mut Table, name: &str, size: usize, board: &Board, ours: &
     }
     table.row(&format!("{name}, drawing known to be lawful"), size, &on, Some(&theirs));
     table.row(&format!("{name}, public call"), size, &checked, Some(&theirs));
+}
+
+/// The operations on tables that the edits are made of. The Rust has none of them by itself.
+fn time_tables(table: &mut Table, size: usize, board: &mut Board, ours: &Ours, places: usize) {
+    let wires: Vec<_> = board.edits_of(EditKind::Wire, places).iter().map(numbered).collect();
+    let deletes: Vec<_> = board.edits_of(EditKind::Delete, places).iter().map(numbered).collect();
+    let placed: Vec<_> = board.edits_of(EditKind::Place, places).iter().map(numbered).collect();
+    let rows = rows_of(&board.state);
+    assert_eq!(ours.answer(Call::CountJoints, Numbered::NONE), rows.joints.len() as u32, "joints");
+    assert_eq!(ours.answer(Call::Merge, Numbered::NONE), sizes(&board.state).0 as u32, "wires merge no further");
+    for (name, call, edits) in [
+        ("split the wires at a point", Call::Split, &deletes[..]),
+        ("keep the wires that a square does not meet", Call::KeepWires, &deletes[..]),
+        ("keep the components that a square does not meet", Call::KeepComponents, &deletes[..]),
+        ("lay a wire in row order, with the pads", Call::Lay, &wires[..]),
+        ("insert a component in row order", Call::Insert, &placed[..]),
+        ("merge in one pass, with the pads", Call::Merge, &[Numbered::NONE]),
+        ("count the joints, with the pads", Call::CountJoints, &[Numbered::NONE]),
+        ("the pads of all components", Call::Pads, &[Numbered::NONE]),
+    ] {
+        let times: Vec<_> = edits.iter().map(|edit| ours.time(call, *edit)).collect();
+        table.row(name, size, &times, None);
+    }
 }
 
 fn time_looks(table: &mut Table, size: usize, board: &Board, ours: &Ours) {

@@ -21,7 +21,7 @@ extern "C" {
     ) -> u32;
 }
 
-/// The number of a timed call in `crates/bench_calls/specs/Timed.antt`.
+/// The number of a timed call in `crates/bench_calls/specs/Timed.antt` and `Tables.antt`.
 #[derive(Debug, Clone, Copy, PartialEq, Eq)]
 #[repr(u8)]
 pub enum Call {
@@ -33,6 +33,14 @@ pub enum Call {
     List = 5,
     LooseOn = 6,
     Loose = 7,
+    Split = 8,
+    KeepWires = 9,
+    KeepComponents = 10,
+    Lay = 11,
+    Insert = 12,
+    Merge = 13,
+    CountJoints = 14,
+    Pads = 15,
 }
 
 /// The drawing of a script, on which calls are timed.
@@ -44,7 +52,7 @@ pub struct Ours {
 }
 
 /// How often a time is taken; the least counts.
-pub const ROUNDS: usize = 5;
+const ROUNDS: usize = 5;
 
 impl Ours {
     pub fn new(script: &[Numbered]) -> Self {
@@ -82,18 +90,28 @@ impl Ours {
         self.run(call, edit, 1).1
     }
 
-    /// Nanoseconds of one call. So many are made that they take about as long as the drawing takes to build, at least 10 ms;
-    /// twice as many must take about twice as long, or the compiler has made fewer of them.
+    /// Nanoseconds of one call. So many are made that they take three times as long as the drawing takes to build, at least
+    /// 20 ms.
     pub fn time(&self, call: Call, edit: Numbered) -> f64 {
-        let mut times = 16;
-        let enough = self.building.max(1e7);
-        while self.run(call, edit, times).0 - self.building < enough {
+        let enough = (3.0 * self.building).max(2e7);
+        let mut times = 8;
+        let mut taken = self.run(call, edit, times).0 - self.building;
+        while taken < enough {
+            times *= 2;
+            taken = self.run(call, edit, times).0 - self.building;
+        }
+        let least = (1..ROUNDS).map(|_| self.run(call, edit, times).0 - self.building).fold(taken, f64::min);
+        least / f64::from(times)
+    }
+
+    /// Twice as many calls take about twice as long: the compiler has left out none.
+    pub fn assert_all_made(&self, call: Call, edit: Numbered) {
+        let mut times = 64;
+        while self.run(call, edit, times).0 < 4.0 * self.building {
             times *= 2;
         }
         let least = |times| (0..ROUNDS).map(|_| self.run(call, edit, times).0).fold(f64::INFINITY, f64::min);
-        let each = (least(times) - self.building) / f64::from(times);
-        let twice = (least(2 * times) - self.building) / f64::from(2 * times);
-        assert!(twice > 0.7 * each, "{call:?}: {each} ns each, of twice as many {twice}");
-        each.min(twice)
+        let (once, twice) = (least(times), least(2 * times));
+        assert!(twice > 1.4 * once, "{call:?}: {times} calls take {once} ns, twice as many {twice} ns");
     }
 }

@@ -16,6 +16,7 @@ use Rattle.netlist.specs.Listing.{listOf, looseOf}
 use Rattle.netlist.specs.Answers as netlist
 use Rattle.netlist.specs.declared.LooseCount.{LooseCount}
 use Rattle.bench_calls.specs.Numbered.{editOf}
+use Rattle.bench_calls.specs.Tables.{tableAnswer}
 use Rattle.bench_calls.specs.Timed.{tallyOf, editAnswer, listAnswer, looseAnswer, answerOf, again}
 
 module _ (call what : ℕ) (x y z : ℤ) (d : Drawing) (last : ℕ) where
@@ -50,9 +51,13 @@ module _ (call what : ℕ) (x y z : ℤ) (d : Drawing) (last : ℕ) where
   unfolding answerOf
   by-list a b h = rw (le-ltb call 2 a, le-ltb call 4 b, lt-ltb call 6 h) refl
 
-  pub by-loose : 2 ≤ call → 4 ≤ call → 6 ≤ call → looseAnswer call d ≡ answerOf call what x y z d last
+  pub by-loose : 2 ≤ call → 4 ≤ call → 6 ≤ call → call < 8 → looseAnswer call d ≡ answerOf call what x y z d last
   unfolding answerOf
-  by-loose a b h = rw (le-ltb call 2 a, le-ltb call 4 b, le-ltb call 6 h) refl
+  by-loose a b e h = rw (le-ltb call 2 a, le-ltb call 4 b, le-ltb call 6 e, lt-ltb call 8 h) refl
+
+  pub by-table : 2 ≤ call → 4 ≤ call → 6 ≤ call → 8 ≤ call → tableAnswer call x y z d ≡ answerOf call what x y z d last
+  unfolding answerOf
+  by-table a b e h = rw (le-ltb call 2 a, le-ltb call 4 b, le-ltb call 6 e, le-ltb call 8 h) refl
 
 -- ---- loose points
 

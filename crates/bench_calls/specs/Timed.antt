@@ -15,6 +15,7 @@ use Rattle.netlist.specs.Listing.{listOf, looseOf}
 use Rattle.netlist.specs.Answers as netlist
 use Rattle.netlist.specs.Answers.{bufferOf, netlistIn}
 use Rattle.bench_calls.specs.Numbered.{editOf}
+use Rattle.bench_calls.specs.Tables.{tableAnswer}
 
 -- ---- the drawing
 
@@ -56,13 +57,14 @@ listAnswer call d last =
 unfoldable pub looseAnswer : ℕ → Drawing → ℕ
 looseAnswer call d = cond (eqb call 6) (looseOf (listsOf d)) (netlist.looseAnswer d .count)
 
--- 2 is the plain check and 3 the check of public calls: the first broken rule, by either
+-- 2 is the plain check and 3 the check of public calls: the first broken rule, by either; from 8 on an operation on tables
 unfoldable pub answerOf : ℕ → ℕ → ℤ → ℤ → ℤ → Drawing → ℕ → ℕ
 answerOf call what x y z d last =
     cond (ltb call 2) (editAnswer call what x y z d last)
     (cond (ltb call 4) (checkOf d .rule)
     (cond (ltb call 6) (listAnswer call d last)
-    (looseAnswer call d)))
+    (cond (ltb call 8) (looseAnswer call d)
+    (tableAnswer call x y z d))))
 
 -- f so many times, from the answer a on
 unfoldable pub again : ℕ → (ℕ → ℕ) → ℕ → ℕ

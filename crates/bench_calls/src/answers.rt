@@ -10,6 +10,7 @@ ghost use Rattle.bench_calls.specs.Numbered.{editOf};
 ghost use Rattle.bench_calls.specs.Timed.{tallyOf, editAnswer, listAnswer, looseAnswer, answerOf};
 use crate::edits::edit_checked;
 use crate::edits::edit_on;
+use crate::tables::table_answer;
 use netlist::build_netlist;
 use netlist::loose;
 use netlist::loose_on;
@@ -101,5 +102,8 @@ pub fn answer(call: u8, d: Drawing, what: u8, x: i32, y: i32, z: i32, last: u32)
     if call < 6 {
         return list_answer(call, d, last);
     }
-    loose_answer(call, d)
+    if call < 8 {
+        return loose_answer(call, d);
+    }
+    table_answer(call, d, x, y, z)
 }

@@ -24,7 +24,7 @@ use sheet::Drawing;
 use sheet::Tally;
 
 // The label of every component: K.
-fn k_label() -> Label
+pub(crate) fn k_label() -> Label
     ensures { λ r. ⌜ r ≡ label ⌝ }
 {
     let mut bytes = [0u8; 16];
@@ -33,7 +33,7 @@ fn k_label() -> Label
 }
 
 // The orientation of a number.
-fn turn_of(n: u8) -> RotMirror
+pub(crate) fn turn_of(n: u8) -> RotMirror
     ensures { λ r. ⌜ r ≡ numberedOf n .turn ⌝ }
 {
     let t = numbered(n);

@@ -1,6 +1,7 @@
 // What a timing calls: a drawing built by edits, and then one call so many times on that drawing.
 pub mod answers;
 pub mod edits;
+pub mod tables;
 
 ghost use mathlib.Core.Path.{_≡_};
 ghost use lib.IntN.{pos};
