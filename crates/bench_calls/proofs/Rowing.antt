@@ -1,12 +1,14 @@
 -- Rows counted: what each operation leaves, and the operations by number.
-use Prim.Native.Nat.{ℕ, _≤_, _<_}
+use Prim.Native.Nat.{ℕ, _≤_, _<_, _%_}
 use native.Mathlib.Omega.{arith}
 use mathlib.Core.Bool.{Bool, false, cond, not}
 use mathlib.Core.List.{List, []}
 use mathlib.Core.Path.{_≡_, refl, sym, ap, _∙_}
 use borrow.Author.Tests.{lt-ltb, le-ltb, eq-eqb, ne-eqb}
 use lib.IntN.{ℤ}
-use lib.ListN.{length, length-take}
+use lib.ListN.{length, getD, length-take}
+use Rattle.lists.specs.Tables.{pad, Holds}
+use Rattle.lists.proofs.Tables.{length-pad, same-row}
 use Rattle.lists.specs.Lists.{keep, insert}
 use Rattle.orientation.specs.Orientations.{numberedOf}
 use Rattle.symbol.specs.declared.Point.{Point}
@@ -32,11 +34,21 @@ use Rattle.asked.specs.declared.AskedPointer.{AskedPointer}
 use Rattle.asked.specs.declared.AskedWire.{AskedWire}
 use Rattle.asked.specs.Asked.{askedWire, askedPart, askedPointer}
 use Rattle.bench_calls.specs.Numbered.{label}
-use Rattle.bench_calls.specs.Tables.{grownRows, pointedAnswer, laidAnswer, insertedAnswer, wholeAnswer, tableAnswer}
+use Rattle.bench_calls.specs.Tables.{grownRows, lineAt, xAt, pointedAnswer, laidAnswer, insertedAnswer, wholeAnswer, tableAnswer}
 
 pub grown-rows : {ws : List Wire} {g : Grown} → Grows ws g → g .table .count ≡ grownRows ws
 unfolding grownRows
 grown-rows {ws} h = h .holds .count-is ∙ ap (λ (b : Bool). length (cond b [] ws)) (h .full-is)
+
+-- ---- rows
+
+-- a row of a table is that row of its list, with zeros behind
+module _ {A : Type 0} {n : ℕ} {z : A} {xs rows : List A} {count : ℕ} (h : Holds n z xs rows count) where
+  pub long-rows : length rows ≡ n
+  long-rows = ap length (h .rows-are) ∙ length-pad n z xs (h .room)
+
+  pub row-is : (f : A → ℕ) (i : ℕ) (d : A) → i < n → f (getD rows i d) ≡ f (getD (pad n z xs) i z)
+  row-is f i d l = ap f (same-row rows i d z (omega (arith, l, long-rows)) ∙ ap (λ (r : List A). getD r i z) (h .rows-are))
 
 -- ---- joints
 
@@ -65,16 +77,16 @@ module _ (call : ℕ) (x y z : ℤ) (d : Drawing) {a : AskedPointer} (q : a ≡ 
         ap (λ (b : AskedPointer). grownRows (splitAt (b .point) (listsOf d .wires))) q
         ∙ rw (eq-eqb (askedPointer x y z .reply) 0 (sym same-reply ∙ h), eq-eqb call 8 e) refl
 
-    pub pointed-wires : (call ≡ 8 → ⊥) → call ≡ 9 → length (keep (λ w. not (meetsWire (a .point) (a .size) w)) (listsOf d .wires)) ≡ pointedAnswer call x y z d
+    pub pointed-wires : (call ≡ 8 → ⊥) → call ≡ 9 → lineAt (a .size % 512) (keep (λ w. not (meetsWire (a .point) (a .size) w)) (listsOf d .wires)) ≡ pointedAnswer call x y z d
     unfolding pointedAnswer
     pointed-wires f e =
-        ap (λ (b : AskedPointer). length (keep (λ w. not (meetsWire (b .point) (b .size) w)) (listsOf d .wires))) q
+        ap (λ (b : AskedPointer). lineAt (b .size % 512) (keep (λ w. not (meetsWire (b .point) (b .size) w)) (listsOf d .wires))) q
         ∙ rw (eq-eqb (askedPointer x y z .reply) 0 (sym same-reply ∙ h), ne-eqb call 8 f, eq-eqb call 9 e) refl
 
-    pub pointed-parts : (call ≡ 8 → ⊥) → (call ≡ 9 → ⊥) → length (keep (λ c. not (meetsPart (a .point) (a .size) c)) (listsOf d .parts)) ≡ pointedAnswer call x y z d
+    pub pointed-parts : (call ≡ 8 → ⊥) → (call ≡ 9 → ⊥) → xAt (a .size % 128) (keep (λ c. not (meetsPart (a .point) (a .size) c)) (listsOf d .parts)) ≡ pointedAnswer call x y z d
     unfolding pointedAnswer
     pointed-parts f g =
-        ap (λ (b : AskedPointer). length (keep (λ c. not (meetsPart (b .point) (b .size) c)) (listsOf d .parts))) q
+        ap (λ (b : AskedPointer). xAt (b .size % 128) (keep (λ c. not (meetsPart (b .point) (b .size) c)) (listsOf d .parts))) q
         ∙ rw (eq-eqb (askedPointer x y z .reply) 0 (sym same-reply ∙ h), ne-eqb call 8 f, ne-eqb call 9 g) refl
 
 -- ---- a wire laid, a component put in
@@ -98,9 +110,9 @@ module _ (x y : ℤ) (d : Drawing) where
   unfolding insertedAnswer
   inserted-full h = rw (le-ltb (d .components .count) 128 h) refl
 
-  pub inserted-rows : {c : Component} → c ≡ askedPart 1 (numberedOf 0 .turn) x y label .part → d .components .count < 128 → length (insert ahead c (listsOf d .parts)) ≡ insertedAnswer x y d
+  pub inserted-row : {c : Component} → c ≡ askedPart 1 (numberedOf 0 .turn) x y label .part → d .components .count < 128 → xAt (c .x % 128) (insert ahead c (listsOf d .parts)) ≡ insertedAnswer x y d
   unfolding insertedAnswer
-  inserted-rows e h = ap (λ (c : Component). length (insert ahead c (listsOf d .parts))) e ∙ rw (lt-ltb (d .components .count) 128 h) refl
+  inserted-row e h = ap (λ (c : Component). xAt (c .x % 128) (insert ahead c (listsOf d .parts))) e ∙ rw (lt-ltb (d .components .count) 128 h) refl
 
 -- ---- the whole drawing
 

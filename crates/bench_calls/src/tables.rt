@@ -1,7 +1,7 @@
-// One operation on the tables of a drawing: how many rows come out.
+// One operation on the tables of a drawing: how many rows come out, or a number of one of them.
 ghost use mathlib.Core.Bool.{not};
 ghost use mathlib.Core.Path.{_≡_};
-ghost use Prim.Native.Nat.{_≤_, _<_};
+ghost use Prim.Native.Nat.{_≤_, _<_, _%_};
 ghost use lib.ListN.{length};
 ghost use Rattle.lists.specs.Lists.{keep, insert};
 ghost use Rattle.sheet.specs.Drawings.{wireRows, componentRows};
@@ -14,7 +14,7 @@ ghost use Rattle.sheet.specs.Rules.{Lawful};
 ghost use Rattle.sheet.specs.Run;
 ghost use Rattle.sheet.specs.Split.{splitAt};
 ghost use Rattle.parts.specs.Tables.{PartsFit, TabledParts};
-ghost use Rattle.bench_calls.specs.Tables.{grownRows, pointedAnswer, laidAnswer, insertedAnswer, wholeAnswer, tableAnswer};
+ghost use Rattle.bench_calls.specs.Tables.{grownRows, lineAt, xAt, pointedAnswer, laidAnswer, insertedAnswer, wholeAnswer, tableAnswer};
 use crate::edits::k_label;
 use crate::edits::turn_of;
 use asked::asked_part;
@@ -40,6 +40,12 @@ fn word(n: usize) -> u32
     n as u32
 }
 
+fn wide(n: u16) -> u32
+    ensures { λ r. ⌜ r ≡ n ⌝ }
+{
+    n as u32
+}
+
 fn split_rows(ws: Wires, p: Point) -> u32
     requires { ⌜ ws .count ≤ 512 ⌝ }
     ensures { λ r. ⌜ r ≡ grownRows (splitAt p (wireRows ws)) ⌝ }
@@ -49,20 +55,24 @@ fn split_rows(ws: Wires, p: Point) -> u32
     word(t.count)
 }
 
-fn unhit_rows(ws: Wires, p: Point, size: u16) -> u32
+fn unhit_row(ws: Wires, p: Point, size: u16) -> u32
     requires { ⌜ (ws .count ≤ 512) × ((p .x ≤ 12000) × ((p .y ≤ 12000) × (size ≤ 1000))) ⌝ }
-    ensures { λ r. ⌜ r ≡ length (keep (λ w. not (meetsWire p size w)) (wireRows ws)) ⌝ }
+    ensures { λ r. ⌜ r ≡ lineAt (size % 512) (keep (λ w. not (meetsWire p size w)) (wireRows ws)) ⌝ }
 {
     let t = keep_unhit(ws, p, size);
-    word(t.count)
+    let i = (size % 512) as usize;
+    let w = t.rows[i];
+    wide(w.line)
 }
 
-fn unmet_rows(cs: Components, p: Point, size: u16) -> u32
+fn unmet_row(cs: Components, p: Point, size: u16) -> u32
     requires { ⌜ PartsFit cs × ((p .x ≤ 12000) × ((p .y ≤ 12000) × (size ≤ 1000))) ⌝ }
-    ensures { λ r. ⌜ r ≡ length (keep (λ c. not (meetsPart p size c)) (componentRows cs)) ⌝ }
+    ensures { λ r. ⌜ r ≡ xAt (size % 128) (keep (λ c. not (meetsPart p size c)) (componentRows cs)) ⌝ }
 {
     let t = keep_unmet(cs, p, size);
-    word(t.count)
+    let i = (size % 128) as usize;
+    let c = t.rows[i];
+    wide(c.x)
 }
 
 fn laid_rows(ws: Wires, cs: Components, n: Wire) -> u32
@@ -75,12 +85,14 @@ fn laid_rows(ws: Wires, cs: Components, n: Wire) -> u32
     word(t.count)
 }
 
-fn inserted_rows(cs: Components, c: Component) -> u32
+fn inserted_row(cs: Components, c: Component) -> u32
     requires { ⌜ TabledParts (componentRows cs) cs × (cs .count < 128) ⌝ }
-    ensures { λ r. ⌜ r ≡ length (insert ahead c (componentRows cs)) ⌝ }
+    ensures { λ r. ⌜ r ≡ xAt (c .x % 128) (insert ahead c (componentRows cs)) ⌝ }
 {
     let t = insert_part(cs, c);
-    word(t.count)
+    let i = (c.x % 128) as usize;
+    let b = t.rows[i];
+    wide(b.x)
 }
 
 fn merged_rows(ws: Wires, cs: Components) -> u32
@@ -125,9 +137,9 @@ fn pointed_answer(call: u8, d: Drawing, x: i32, y: i32, z: i32) -> u32
         return split_rows(ws, p);
     }
     if call == 9 {
-        return unhit_rows(ws, p, a.size);
+        return unhit_row(ws, p, a.size);
     }
-    unmet_rows(cs, p, a.size)
+    unmet_row(cs, p, a.size)
 }
 
 // A horizontal wire laid among the others.
@@ -158,7 +170,7 @@ fn inserted_answer(d: Drawing, x: i32, y: i32) -> u32
     if cs.count >= 128 {
         return 0;
     }
-    inserted_rows(cs, c)
+    inserted_row(cs, c)
 }
 
 // Of the whole drawing: 13 wires merged, 14 joints counted, else pads.

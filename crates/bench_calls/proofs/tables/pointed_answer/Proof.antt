@@ -22,17 +22,17 @@ split-rows-requires c κs = c .before .before .before .before .before .before .b
 returns-2 : tie.Need-returns-2
 returns-2 c = c .split-rows .ensures ∙ pointed-split (c .before .before .before .before .before .before .before .before .args .call) (c .before .before .before .before .before .before .before .before .args .x) (c .before .before .before .before .before .before .before .before .args .y) (c .before .before .before .before .before .before .before .before .args .z) (c .before .before .before .before .before .before .before .before .args .d) (c .before .before .before .before .before .before .before .asked-pointer .ensures ∙ handed-three (askedPointer) _ _ _ (c .before .before .before .before .before .before .before .before .fits .x) (c .before .before .before .before .before .before .before .before .fits .y) (c .before .before .before .before .before .before .before .before .fits .z)) (c .before .before .before .before .before .if1 .left) (c .before .if2 .taken)
 
-unhit-rows-requires : tie.Need-unhit-rows-requires
-unhit-rows-requires c κs = let n = pointer-near _ _ _ (c .before .before .before .before .before .before .before .asked-pointer .ensures ∙ handed-three (askedPointer) _ _ _ (c .before .before .before .before .before .before .before .before .fits .x) (c .before .before .before .before .before .before .before .before .fits .y) (c .before .before .before .before .before .before .before .before .fits .z)) (c .before .before .before .before .before .if1 .left) in (c .before .before .before .before .before .before .before .before .pre .rule1 .wire-room, (n .x, (n .y, n .size)))
+unhit-row-requires : tie.Need-unhit-row-requires
+unhit-row-requires c κs = let n = pointer-near _ _ _ (c .before .before .before .before .before .before .before .asked-pointer .ensures ∙ handed-three (askedPointer) _ _ _ (c .before .before .before .before .before .before .before .before .fits .x) (c .before .before .before .before .before .before .before .before .fits .y) (c .before .before .before .before .before .before .before .before .fits .z)) (c .before .before .before .before .before .if1 .left) in (c .before .before .before .before .before .before .before .before .pre .rule1 .wire-room, (n .x, (n .y, n .size)))
 
 returns-3 : tie.Need-returns-3
-returns-3 c = c .unhit-rows .ensures ∙ pointed-wires (c .before .before .before .before .before .before .before .before .before .args .call) (c .before .before .before .before .before .before .before .before .before .args .x) (c .before .before .before .before .before .before .before .before .before .args .y) (c .before .before .before .before .before .before .before .before .before .args .z) (c .before .before .before .before .before .before .before .before .before .args .d) (c .before .before .before .before .before .before .before .before .asked-pointer .ensures ∙ handed-three (askedPointer) _ _ _ (c .before .before .before .before .before .before .before .before .before .fits .x) (c .before .before .before .before .before .before .before .before .before .fits .y) (c .before .before .before .before .before .before .before .before .before .fits .z)) (c .before .before .before .before .before .before .if1 .left) (c .before .before .if2 .left) (c .before .if3 .taken)
+returns-3 c = c .unhit-row .ensures ∙ pointed-wires (c .before .before .before .before .before .before .before .before .before .args .call) (c .before .before .before .before .before .before .before .before .before .args .x) (c .before .before .before .before .before .before .before .before .before .args .y) (c .before .before .before .before .before .before .before .before .before .args .z) (c .before .before .before .before .before .before .before .before .before .args .d) (c .before .before .before .before .before .before .before .before .asked-pointer .ensures ∙ handed-three (askedPointer) _ _ _ (c .before .before .before .before .before .before .before .before .before .fits .x) (c .before .before .before .before .before .before .before .before .before .fits .y) (c .before .before .before .before .before .before .before .before .before .fits .z)) (c .before .before .before .before .before .before .if1 .left) (c .before .before .if2 .left) (c .before .if3 .taken)
 
-unmet-rows-requires : tie.Need-unmet-rows-requires
-unmet-rows-requires c κs = let n = pointer-near _ _ _ (c .before .before .before .before .before .before .before .asked-pointer .ensures ∙ handed-three (askedPointer) _ _ _ (c .before .before .before .before .before .before .before .before .fits .x) (c .before .before .before .before .before .before .before .before .fits .y) (c .before .before .before .before .before .before .before .before .fits .z)) (c .before .before .before .before .before .if1 .left) in (lawful-sound (c .before .before .before .before .before .before .before .before .pre) (owned _ _ (c .before .before .before .before .before .before .before .before .good .1 .0 .1 .1)) .fits, (n .x, (n .y, n .size)))
+unmet-row-requires : tie.Need-unmet-row-requires
+unmet-row-requires c κs = let n = pointer-near _ _ _ (c .before .before .before .before .before .before .before .asked-pointer .ensures ∙ handed-three (askedPointer) _ _ _ (c .before .before .before .before .before .before .before .before .fits .x) (c .before .before .before .before .before .before .before .before .fits .y) (c .before .before .before .before .before .before .before .before .fits .z)) (c .before .before .before .before .before .if1 .left) in (lawful-sound (c .before .before .before .before .before .before .before .before .pre) (owned _ _ (c .before .before .before .before .before .before .before .before .good .1 .0 .1 .1)) .fits, (n .x, (n .y, n .size)))
 
 returns-4 : tie.Need-returns-4
-returns-4 c = c .unmet-rows .ensures ∙ pointed-parts (c .before .before .before .before .before .before .before .before .before .args .call) (c .before .before .before .before .before .before .before .before .before .args .x) (c .before .before .before .before .before .before .before .before .before .args .y) (c .before .before .before .before .before .before .before .before .before .args .z) (c .before .before .before .before .before .before .before .before .before .args .d) (c .before .before .before .before .before .before .before .before .asked-pointer .ensures ∙ handed-three (askedPointer) _ _ _ (c .before .before .before .before .before .before .before .before .before .fits .x) (c .before .before .before .before .before .before .before .before .before .fits .y) (c .before .before .before .before .before .before .before .before .before .fits .z)) (c .before .before .before .before .before .before .if1 .left) (c .before .before .if2 .left) (c .before .if3 .left)
+returns-4 c = c .unmet-row .ensures ∙ pointed-parts (c .before .before .before .before .before .before .before .before .before .args .call) (c .before .before .before .before .before .before .before .before .before .args .x) (c .before .before .before .before .before .before .before .before .before .args .y) (c .before .before .before .before .before .before .before .before .before .args .z) (c .before .before .before .before .before .before .before .before .before .args .d) (c .before .before .before .before .before .before .before .before .asked-pointer .ensures ∙ handed-three (askedPointer) _ _ _ (c .before .before .before .before .before .before .before .before .before .fits .x) (c .before .before .before .before .before .before .before .before .before .fits .y) (c .before .before .before .before .before .before .before .before .before .fits .z)) (c .before .before .before .before .before .before .if1 .left) (c .before .before .if2 .left) (c .before .if3 .left)
 
 pub pointed-answer-spec : {M : Type 1} → statement M
 pointed-answer-spec =
@@ -42,7 +42,7 @@ pointed-answer-spec =
     returns
     split-rows-requires
     returns-2
-    unhit-rows-requires
+    unhit-row-requires
     returns-3
-    unmet-rows-requires
+    unmet-row-requires
     returns-4)
