@@ -24,7 +24,7 @@ const EDITS: [(EditKind, &str); 5] = [
 
 fn main() {
     let quick = std::env::args().any(|word| word == "--quick");
-    let places = if quick { 3 } else { 12 };
+    let places = if quick { 2 } else { 5 };
     let mut table = Table::default();
     for size in SIZES {
         let mut board = Board::new(size, SEED);
@@ -44,6 +44,7 @@ fn main() {
     table.print();
 }
 
+/// Once for each call, on the smallest drawing.
 fn assert_all_made(board: &mut Board, ours: &Ours) {
     for (kind, _) in EDITS {
         let edit = numbered(&board.edits_of(kind, 1)[0]);
@@ -51,8 +52,9 @@ fn assert_all_made(board: &mut Board, ours: &Ours) {
             ours.assert_all_made(call, edit);
         }
     }
-    for call in [Call::CheckPlainly, Call::Check, Call::ListOn, Call::List, Call::LooseOn, Call::Loose] {
-        ours.assert_all_made(call, Numbered::NONE);
+    let edit = numbered(&board.edits_of(EditKind::Delete, 1)[0]);
+    for call in Call::LOOKS.into_iter().chain(Call::TABLES) {
+        ours.assert_all_made(call, edit);
     }
 }
 

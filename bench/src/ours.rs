@@ -43,6 +43,21 @@ pub enum Call {
     Pads = 15,
 }
 
+impl Call {
+    pub const LOOKS: [Self; 6] =
+        [Self::CheckPlainly, Self::Check, Self::ListOn, Self::List, Self::LooseOn, Self::Loose];
+    pub const TABLES: [Self; 8] = [
+        Self::Split,
+        Self::KeepWires,
+        Self::KeepComponents,
+        Self::Lay,
+        Self::Insert,
+        Self::Merge,
+        Self::CountJoints,
+        Self::Pads,
+    ];
+}
+
 /// The drawing of a script, on which calls are timed.
 pub struct Ours {
     whats: Vec<u8>,
@@ -59,7 +74,8 @@ impl Ours {
         let whats = script.iter().map(|edit| edit.what).collect();
         let numbers = script.iter().flat_map(|edit| edit.numbers).collect();
         let mut ours = Ours { whats, numbers, building: 0.0 };
-        ours.building = (0..2 * ROUNDS).map(|_| ours.run(Call::Loose, Numbered::NONE, 0).0).fold(f64::INFINITY, f64::min);
+        ours.building =
+            (0..2 * ROUNDS).map(|_| ours.run(Call::Loose, Numbered::NONE, 0).0).fold(f64::INFINITY, f64::min);
         ours
     }
 
@@ -90,10 +106,10 @@ impl Ours {
         self.run(call, edit, 1).1
     }
 
-    /// Nanoseconds of one call. So many are made that they take three times as long as the drawing takes to build, at least
-    /// 20 ms.
+    /// Nanoseconds of one call. So many are made that they take twice as long as the drawing takes to build, at least
+    /// 10 ms.
     pub fn time(&self, call: Call, edit: Numbered) -> f64 {
-        let enough = (3.0 * self.building).max(2e7);
+        let enough = (2.0 * self.building).max(1e7);
         let mut times = 8;
         let mut taken = self.run(call, edit, times).0 - self.building;
         while taken < enough {

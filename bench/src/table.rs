@@ -1,12 +1,21 @@
-//! The times as a table: the median and the worst over the places, and how the median grows.
+//! The times as tables, in microseconds: the median over the places at each size, the worst at the largest, and the growth.
+
+/// The sizes between which growth is told.
+const FROM: usize = 128;
+const TO: usize = 512;
 
 #[derive(Default)]
 pub struct Table {
     rows: Vec<Row>,
 }
 
+/// One call at all sizes.
 struct Row {
     name: String,
+    cells: Vec<Cell>,
+}
+
+struct Cell {
     size: usize,
     ours: Spread,
     theirs: Option<Spread>,
@@ -19,55 +28,62 @@ struct Spread {
 }
 
 fn spread(times: &[f64]) -> Spread {
-    let mut times = times.to_vec();
+    let mut times: Vec<f64> = times.iter().map(|time| time / 1000.0).collect();
     times.sort_by(f64::total_cmp);
     Spread { median: times[times.len() / 2], worst: times[times.len() - 1] }
 }
 
+/// Three digits, whatever the number.
+fn shown(time: f64) -> String {
+    let places = (2.0 - time.log10().floor()).clamp(0.0, 3.0) as usize;
+    format!("{time:.places$}")
+}
+
 impl Table {
     pub fn row(&mut self, name: &str, size: usize, ours: &[f64], theirs: Option<&[f64]>) {
-        self.rows.push(Row { name: name.to_string(), size, ours: spread(ours), theirs: theirs.map(spread) });
+        let cell = Cell { size, ours: spread(ours), theirs: theirs.map(spread) };
+        match self.rows.iter_mut().find(|row| row.name == name) {
+            Some(row) => row.cells.push(cell),
+            None => self.rows.push(Row { name: name.to_string(), cells: vec![cell] }),
+        }
     }
 
+    /// Calls that the Rust has too, then those that only ours has.
     pub fn print(&self) {
-        println!("| call | wires | ours ns | worst | Rust ns | worst | ratio |");
-        println!("|---|---:|---:|---:|---:|---:|---:|");
-        let mut names: Vec<&str> = Vec::new();
-        for row in &self.rows {
-            if !names.contains(&row.name.as_str()) {
-                names.push(&row.name);
-            }
-        }
-        for name in &names {
-            for row in self.rows.iter().filter(|row| row.name == *name) {
-                print_row(row);
-            }
-        }
-        println!("\n| call | growth of ours | of the Rust |\n|---|---:|---:|");
-        for name in &names {
-            let ours = self.growth(name, |row| Some(row.ours)).map_or(String::new(), |n| format!("n^{n:.2}"));
-            let theirs = self.growth(name, |row| row.theirs).map_or(String::new(), |n| format!("n^{n:.2}"));
-            println!("| {name} | {ours} | {theirs} |");
-        }
-    }
-
-    /// The power of n by which the median grows from 128 wires to 512.
-    fn growth(&self, name: &str, side: impl Fn(&Row) -> Option<Spread>) -> Option<f64> {
-        let at = |size| self.rows.iter().find(|row| row.name == name && row.size == size).and_then(&side);
-        Some((at(512)?.median / at(128)?.median).log2() / 2.0)
+        println!("| µs: ours / the Rust = ratio | 64 | 128 | 256 | 512 | worst at 512 | growth |");
+        println!("|---|---|---|---|---|---|---|");
+        self.rows.iter().filter(|row| row.is_both()).for_each(Row::print);
+        println!("\n| µs: ours | 64 | 128 | 256 | 512 | worst at 512 | growth |\n|---|---|---|---|---|---|---|");
+        self.rows.iter().filter(|row| !row.is_both()).for_each(Row::print);
     }
 }
 
-fn print_row(row: &Row) {
-    let Row { name, size, ours, theirs } = row;
-    let Spread { median, worst } = *ours;
-    match theirs {
-        Some(theirs) => println!(
-            "| {name} | {size} | {median:.0} | {worst:.0} | {:.0} | {:.0} | {:.2} |",
-            theirs.median,
-            theirs.worst,
-            median / theirs.median
-        ),
-        None => println!("| {name} | {size} | {median:.0} | {worst:.0} | | | |"),
+impl Row {
+    fn is_both(&self) -> bool {
+        self.cells.iter().all(|cell| cell.theirs.is_some())
+    }
+
+    fn print(&self) {
+        let mut line = format!("| {} |", self.name);
+        for Cell { ours, theirs, .. } in &self.cells {
+            line += &match theirs {
+                Some(theirs) => {
+                    let ratio = shown(ours.median / theirs.median);
+                    format!(" {} / {} = {ratio} |", shown(ours.median), shown(theirs.median))
+                }
+                None => format!(" {} |", shown(ours.median)),
+            };
+        }
+        let last = self.cells.last().expect("every call is timed at every size");
+        let worst = [Some(last.ours), last.theirs].into_iter().flatten().map(|side| shown(side.worst));
+        let growth = [self.growth(|cell| Some(cell.ours)), self.growth(|cell| cell.theirs)];
+        let growth = growth.into_iter().flatten().map(|power| format!("n^{power:.2}"));
+        println!("{line} {} | {} |", worst.collect::<Vec<_>>().join(" / "), growth.collect::<Vec<_>>().join(" / "));
+    }
+
+    /// The power of n by which the median grows.
+    fn growth(&self, side: impl Fn(&Cell) -> Option<Spread>) -> Option<f64> {
+        let at = |size| self.cells.iter().find(|cell| cell.size == size).and_then(&side);
+        Some((at(TO)?.median / at(FROM)?.median).log2() / (TO as f64 / FROM as f64).log2())
     }
 }

@@ -1,8 +1,8 @@
 //! The Rust, timed: `State` as published, over lists that stand in for its trees.
 
 use crate::clock::timed;
-use oracle::original::{everywhere, kind_numbered};
 use oracle::orientation::numbered;
+use oracle::original::{everywhere, kind_numbered};
 use oracle::schematic::{Component, State, WireH, WireV};
 use oracle::script::{Edit, Pointer};
 use serde::RoundTrip;
@@ -51,11 +51,21 @@ fn prepared(edit: &Edit) -> Prepared {
     }
 }
 
+/// A copy with room to grow, as a state has that was edited before: something far away was put in and taken out again.
+fn copy(state: &State) -> State {
+    let mut copy = state.round_trip();
+    copy.add_wire(WireH { y: 5000, x1: 5000, x2: 5050 });
+    copy.add_component(Component::new([4000, 4000].into(), kind_numbered(1), numbered(0), String::new()));
+    copy.delete_at_point([5025, 5000], 5);
+    copy.delete_at_point([4000, 4000], 5);
+    copy
+}
+
 /// Nanoseconds of one edit.
 pub fn time_edit(state: &State, asked: &Edit) -> f64 {
     let asked = prepared(asked);
     let batch = || {
-        let mut copies: Vec<_> = (0..BATCH).map(|_| (state.round_trip(), asked.clone())).collect();
+        let mut copies: Vec<_> = (0..BATCH).map(|_| (copy(state), asked.clone())).collect();
         let (time, ()) = timed(|| {
             for (state, asked) in copies.iter_mut() {
                 edit(state, std::mem::replace(asked, Prepared::Delete(Pointer { x: 0, y: 0, size: 0 })));
