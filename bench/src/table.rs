@@ -1,0 +1,89 @@
+//! The times as tables, in microseconds: the median over the places at each size, the worst at the largest, and the growth.
+
+/// The sizes between which growth is told.
+const FROM: usize = 128;
+const TO: usize = 512;
+
+#[derive(Default)]
+pub struct Table {
+    rows: Vec<Row>,
+}
+
+/// One call at all sizes.
+struct Row {
+    name: String,
+    cells: Vec<Cell>,
+}
+
+struct Cell {
+    size: usize,
+    ours: Spread,
+    theirs: Option<Spread>,
+}
+
+#[derive(Clone, Copy)]
+struct Spread {
+    median: f64,
+    worst: f64,
+}
+
+fn spread(times: &[f64]) -> Spread {
+    let mut times: Vec<f64> = times.iter().map(|time| time / 1000.0).collect();
+    times.sort_by(f64::total_cmp);
+    Spread { median: times[times.len() / 2], worst: times[times.len() - 1] }
+}
+
+/// Three digits, whatever the number.
+fn shown(time: f64) -> String {
+    let places = (2.0 - time.log10().floor()).clamp(0.0, 3.0) as usize;
+    format!("{time:.places$}")
+}
+
+impl Table {
+    pub fn row(&mut self, name: &str, size: usize, ours: &[f64], theirs: Option<&[f64]>) {
+        let cell = Cell { size, ours: spread(ours), theirs: theirs.map(spread) };
+        match self.rows.iter_mut().find(|row| row.name == name) {
+            Some(row) => row.cells.push(cell),
+            None => self.rows.push(Row { name: name.to_string(), cells: vec![cell] }),
+        }
+    }
+
+    /// Calls that the Rust has too, then those that only ours has.
+    pub fn print(&self) {
+        println!("| µs: ours / the Rust = ratio | 64 | 128 | 256 | 512 | worst at 512 | growth |");
+        println!("|---|---|---|---|---|---|---|");
+        self.rows.iter().filter(|row| row.is_both()).for_each(Row::print);
+        println!("\n| µs: ours | 64 | 128 | 256 | 512 | worst at 512 | growth |\n|---|---|---|---|---|---|---|");
+        self.rows.iter().filter(|row| !row.is_both()).for_each(Row::print);
+    }
+}
+
+impl Row {
+    fn is_both(&self) -> bool {
+        self.cells.iter().all(|cell| cell.theirs.is_some())
+    }
+
+    fn print(&self) {
+        let mut line = format!("| {} |", self.name);
+        for Cell { ours, theirs, .. } in &self.cells {
+            line += &match theirs {
+                Some(theirs) => {
+                    let ratio = shown(ours.median / theirs.median);
+                    format!(" {} / {} = {ratio} |", shown(ours.median), shown(theirs.median))
+                }
+                None => format!(" {} |", shown(ours.median)),
+            };
+        }
+        let last = self.cells.last().expect("every call is timed at every size");
+        let worst = [Some(last.ours), last.theirs].into_iter().flatten().map(|side| shown(side.worst));
+        let growth = [self.growth(|cell| Some(cell.ours)), self.growth(|cell| cell.theirs)];
+        let growth = growth.into_iter().flatten().map(|power| format!("n^{power:.2}"));
+        println!("{line} {} | {} |", worst.collect::<Vec<_>>().join(" / "), growth.collect::<Vec<_>>().join(" / "));
+    }
+
+    /// The power of n by which the median grows.
+    fn growth(&self, side: impl Fn(&Cell) -> Option<Spread>) -> Option<f64> {
+        let at = |size| self.cells.iter().find(|cell| cell.size == size).and_then(&side);
+        Some((at(TO)?.median / at(FROM)?.median).log2() / (TO as f64 / FROM as f64).log2())
+    }
+}

@@ -1,0 +1,89 @@
+//! The Rust, timed: `State` as published, over lists that stand in for its trees.
+
+use crate::clock::timed;
+use oracle::orientation::numbered;
+use oracle::original::{everywhere, kind_numbered};
+use oracle::schematic::{Component, State, WireH, WireV};
+use oracle::script::{Edit, Pointer};
+use serde::RoundTrip;
+use std::hint::black_box;
+
+/// So many copies are edited one behind the other under one look at the clock.
+const BATCH: usize = 8;
+const ROUNDS: usize = 60;
+
+/// The Rust's own call and nothing else.
+fn edit(state: &mut State, edit: Prepared) {
+    match edit {
+        Prepared::H(wire) => state.add_wire(wire),
+        Prepared::V(wire) => state.add_wire(wire),
+        Prepared::Place(part) => drop(black_box(state.add_component(part))),
+        Prepared::Delete(Pointer { x, y, size }) => state.delete_at_point([x, y], size),
+        Prepared::TurnRight(Pointer { x, y, size }) => state.rotate_component_at_point([x, y].into(), size),
+        Prepared::Mirror(Pointer { x, y, size }) => state.mirror_component_at_point([x, y].into(), size),
+    }
+}
+
+/// An edit with what the Rust takes by value made already.
+#[derive(Clone)]
+enum Prepared {
+    H(WireH),
+    V(WireV),
+    Place(Component),
+    Delete(Pointer),
+    TurnRight(Pointer),
+    Mirror(Pointer),
+}
+
+fn prepared(edit: &Edit) -> Prepared {
+    match *edit {
+        Edit::Wire { vertical: false, line, start, end } => Prepared::H(WireH { y: line, x1: start, x2: end }),
+        Edit::Wire { vertical: true, line, start, end } => Prepared::V(WireV { x: line, y1: start, y2: end }),
+        Edit::Place { kind, orient, x, y, ref label } => Prepared::Place(Component::new(
+            [x, y].into(),
+            kind_numbered(kind as usize),
+            numbered(orient as usize),
+            String::from_utf8_lossy(label).into_owned(),
+        )),
+        Edit::Delete(pointer) => Prepared::Delete(pointer),
+        Edit::TurnRight(pointer) => Prepared::TurnRight(pointer),
+        Edit::Mirror(pointer) => Prepared::Mirror(pointer),
+    }
+}
+
+/// A copy with room to grow, as a state has that was edited before: something far away was put in and taken out again.
+fn copy(state: &State) -> State {
+    let mut copy = state.round_trip();
+    copy.add_wire(WireH { y: 5000, x1: 5000, x2: 5050 });
+    copy.add_component(Component::new([4000, 4000].into(), kind_numbered(1), numbered(0), String::new()));
+    copy.delete_at_point([5025, 5000], 5);
+    copy.delete_at_point([4000, 4000], 5);
+    copy
+}
+
+/// Nanoseconds of one edit.
+pub fn time_edit(state: &State, asked: &Edit) -> f64 {
+    let asked = prepared(asked);
+    let batch = || {
+        let mut copies: Vec<_> = (0..BATCH).map(|_| (copy(state), asked.clone())).collect();
+        let (time, ()) = timed(|| {
+            for (state, asked) in copies.iter_mut() {
+                edit(state, std::mem::replace(asked, Prepared::Delete(Pointer { x: 0, y: 0, size: 0 })));
+            }
+        });
+        black_box(copies);
+        time / BATCH as f64
+    };
+    (0..ROUNDS).map(|_| batch()).fold(f64::INFINITY, f64::min)
+}
+
+/// Nanoseconds of one look at the state.
+pub fn time_look<T>(state: &State, look: impl Fn(&State) -> T) -> f64 {
+    let batch = || timed(|| (0..BATCH).for_each(|_| drop(black_box(look(black_box(state)))))).0 / BATCH as f64;
+    (0..ROUNDS).map(|_| batch()).fold(f64::INFINITY, f64::min)
+}
+
+/// Points with the count 1; the Rust has no such call.
+pub fn loose(state: &State) -> usize {
+    state.junctions_iter(&everywhere()).filter(|(_, count)| *count == 1).count()
+}

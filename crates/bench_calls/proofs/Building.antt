@@ -1,0 +1,86 @@
+-- Each drawing that is built is lawful.
+use Prim.Native.Nat.{ℕ, zero, suc, _+_, _*_}
+use native.Mathlib.Omega.{arith}
+use mathlib.Core.List.{List, [], List·Memᴰ·not-nil as ∈-nil}
+use mathlib.Core.Path.{_≡_, refl, sym, ap, subst, _∙_}
+use borrow.Author.Tests.{eq-eqb, ne-eqb}
+use lib.Dec.{eqb}
+use lib.IntN.{ℤ}
+use lib.ListN.{getD}
+use mir.Syntax.{w32}
+use mir.Val.{SFits}
+use Rattle.lists.specs.Lists.{_∈_}
+use Rattle.lists.proofs.Tests.{choose, eqb-reads}
+use Rattle.lists.proofs.Tables.{holds-list, holds-self, holds-count}
+use Rattle.sheet.specs.declared.Component.{Component}
+use Rattle.sheet.specs.declared.Wires.{Wires}
+use Rattle.sheet.specs.declared.Components.{Components}
+use Rattle.sheet.specs.declared.Drawing.{Drawing}
+use Rattle.sheet.specs.Drawings.{Sheet, emptySheet, drawn}
+use Rattle.sheet.specs.Rules.{Lawful}
+use Rattle.sheet.proofs.Edits.{empty-good}
+use Rattle.sheet.proofs.Rules.{drawn-lawful}
+use Rattle.wires.specs.Tables.{Tabled}
+use Rattle.parts.specs.Tables.{TabledParts}
+use Rattle.joints.specs.Tables.{sheetOf, Sound}
+use Rattle.asked.proofs.Handed.{bits, handed-three}
+use Rattle.redraw.specs.declared.Edited.{Edited}
+use Rattle.bench_calls.specs.Numbered.{editOf}
+use Rattle.bench_calls.specs.Timed.{tallyOf, nextOf, numberAt, builtBy}
+use Rattle.bench_calls.proofs.Numbers.{edit-accepted}
+
+-- ---- the empty drawing
+
+module _ {ws : Wires} {cs : Components} (w : Tabled [] ws) (p : TabledParts [] cs) where
+  pub blank-sound : Sound ws cs
+  blank-sound = record {
+    wires = holds-self w;
+    parts = holds-self p;
+    fits = record { room = holds-count p; each = λ c m. absurd (∈-nil (subst (λ (l : List Component). c ∈ l) (holds-list p) m)) };
+  }
+
+  pub blank-sheet : sheetOf ws cs ≡ emptySheet
+  blank-sheet = λ i. record { wires = holds-list w i; parts = holds-list p i }
+
+-- ---- one edit
+
+module _ (what : ℕ) (x y z : ℤ) (d : Drawing) where
+  module _ {e : Edited} (q : e ≡ editOf what x y z d (tallyOf 0)) where
+    same-reply : e .reply ≡ editOf what x y z d (tallyOf 0) .reply
+    same-reply = ap (λ (r : Edited). r .reply) q
+
+    pub next-done : e .reply ≡ 0 → e .drawing ≡ nextOf what x y z d
+    unfolding nextOf
+    next-done h = ap (λ (r : Edited). r .drawing) q ∙ rw (eq-eqb (editOf what x y z d (tallyOf 0) .reply) 0 (sym same-reply ∙ h)) refl
+
+    pub next-left : (e .reply ≡ 0 → ⊥) → d ≡ nextOf what x y z d
+    unfolding nextOf
+    next-left f = rw (ne-eqb (editOf what x y z d (tallyOf 0) .reply) 0 (λ h. f (same-reply ∙ h))) refl
+
+  pub next-lawful : Lawful d → Lawful (nextOf what x y z d)
+  unfolding nextOf
+  next-lawful l = choose (eqb-reads (editOf what x y z d (tallyOf 0) .reply) 0) Lawful (λ h. edit-accepted what x y z l (tallyOf 0) h .lawful) (λ _. l)
+
+-- ---- all edits
+
+module _ (whats : List ℕ) (numbers : List ℤ) where
+  pub built-none : {r : Drawing} → r ≡ drawn emptySheet → r ≡ builtBy whats numbers 0
+  unfolding builtBy
+  built-none e = e
+
+  pub built-next : (n : ℕ) {what : ℕ} {x y z : ℤ} {d r : Drawing} → d ≡ builtBy whats numbers n → what ≡ getD whats n 0
+      → x ≡ numberAt numbers (3 * n) → y ≡ numberAt numbers (3 * n + 1) → z ≡ numberAt numbers (3 * n + 2)
+      → SFits w32 x → SFits w32 y → SFits w32 z → r ≡ nextOf what (bits x) (bits y) (bits z) d → r ≡ builtBy whats numbers (n + 1)
+  unfolding builtBy
+  built-next n {what} {x} {y} {z} {d} {r} e p a b c f g h q =
+      let k : suc n ≡ n + 1 = omega arith in
+      subst (λ (m : ℕ). r ≡ builtBy whats numbers m) k
+      (q ∙ handed-three (λ x y z. nextOf what x y z d) x y z f g h ∙ (λ i. nextOf (p i) (a i) (b i) (c i) (e i)))
+
+  pub built-end : (n m : ℕ) {d : Drawing} → n ≡ m → d ≡ builtBy whats numbers n → d ≡ builtBy whats numbers m
+  built-end n m {d} e p = subst (λ (k : ℕ). d ≡ builtBy whats numbers k) e p
+
+  pub built-lawful : (n : ℕ) → Lawful (builtBy whats numbers n)
+  unfolding builtBy
+  built-lawful zero = drawn-lawful (record { wires = omega arith; parts = omega arith }) empty-good
+  built-lawful (suc n) = next-lawful (getD whats n 0) (numberAt numbers (3 * n)) (numberAt numbers (3 * n + 1)) (numberAt numbers (3 * n + 2)) (builtBy whats numbers n) (built-lawful n)

@@ -1,0 +1,4 @@
+pub mod Numbers
+pub mod Building
+pub mod Rowing
+pub mod Timing

@@ -1,0 +1,3 @@
+pub mod Numbered
+pub mod Tables
+pub mod Timed
