@@ -17,9 +17,11 @@ use Rattle.draw.specs.Transforms.{position, transformOf}
 use Rattle.draw.specs.Bound.{CloseDraw}
 use Rattle.draw.specs.declared.Draw.{Draw}
 use Rattle.draw.proofs.Bound.{transform-close}
-use Rattle.cad.specs.Answers.{drawn, refused}
-use Rattle.cad.specs.Shapes.{within, asked, componentShape}
-use Rattle.cad.proofs.Answers.{one-draw, no-draw, no-refusal}
+use Rattle.draw.specs.Answers.{drawn, asked}
+use Rattle.draw.proofs.Answers.{one-draw, no-draw}
+use Rattle.cad.specs.Answers.{refused}
+use Rattle.cad.specs.Shapes.{within, componentShape}
+use Rattle.cad.proofs.Answers.{no-refusal}
 
 -- r is what is drawn of d, which is shape i of the list
 pub record Shown (o : RotMirror) (x y : ℤ) (i : ℕ) (ds : List Draw) (r : Draw) : Type 0 where

@@ -1,25 +1,25 @@
 -- Each way out of `component`: the tests that led there decide the definition.
 use mathlib.Core.Path.{_≡_, sym, ap, _∙_}
-use Prim.Native.Nat.{ℕ, _≤_, _<_}
-use native.Mathlib.Omega.{arith}
+use Prim.Native.Nat.{ℕ}
 use mathlib.Core.Bool.{Bool, true, false, _&&_}
 use mathlib.Core.List.{map}
 use lib.Dec.{leb}
 use lib.IntN.{ℤ}
-use lib.ListN.{getD}
 use borrow.Author.Tests.{eq-eqb, ne-eqb}
 use Rattle.orientation.specs.Orientations.{known}
 use Rattle.orientation.specs.declared.RotMirror.{RotMirror}
 use Rattle.label.specs.Labels.{heldLabel}
 use Rattle.label.specs.declared.Label.{Label}
 use Rattle.label.specs.declared.Held.{Held}
-use Rattle.draw.specs.Symbols.{countOf, drawsOf}
+use Rattle.draw.specs.Answers.{Answer, drawn, no-shape, chosen, asked}
+use Rattle.draw.specs.Symbols.{drawsOf}
 use Rattle.draw.specs.Transforms.{position, transformOf}
 use Rattle.draw.specs.declared.Vector2.{Vector2}
 use Rattle.draw.specs.declared.Draw.{Draw}
-use Rattle.draw.proofs.Tables.{count-is}
-use Rattle.cad.specs.Answers.{Answer, drawn, no-shape, refused}
-use Rattle.cad.specs.Shapes.{within, asked, componentShape}
+use Rattle.draw.specs.declared.Choice.{Choice}
+use Rattle.draw.specs.declared.Choice.the-variants.{Of, Nothing}
+use Rattle.cad.specs.Answers.{refused}
+use Rattle.cad.specs.Shapes.{within, componentShape}
 use Rattle.cad.proofs.Asked.{asked-at, asked-past}
 use Rattle.cad.proofs.Places.{Tested}
 
@@ -47,16 +47,16 @@ module _ (kind : ℕ) (o : RotMirror) where
       unfolding componentShape
       mislabelled f = simp (symbol-test K t, place-test u, ne-eqb (heldLabel label .reply) 0 (λ r. f ((λ j. H j .reply) ∙ r)))
 
-      module _ {n : ℕ} (g : h .reply ≡ 0) (N : n ≡ countOf kind) where
+      module _ (g : h .reply ≡ 0) (r : Choice) (R : chosen r ≡ asked i (drawsOf kind a b)) where
         good : Right (asked i (map (transformOf o (position x y)) (drawsOf kind a b)))
         unfolding componentShape
         good = simp (symbol-test K t, place-test u, eq-eqb (heldLabel label .reply) 0 (sym (λ j. H j .reply) ∙ g))
 
-        pub past : n ≤ i → Right no-shape
-        past l = sym (asked-past (transformOf o (position x y)) (drawsOf kind a b) i (omega (arith, count-is kind a b))) ∙ good
+        pub past : r ≡ Nothing → Right no-shape
+        past e = asked-past (transformOf o (position x y)) (drawsOf kind a b) i (sym (ap chosen e) ∙ R) ∙ good
 
-        pub shown : {d r : Draw} {v : Vector2} → i < n → d ≡ getD (drawsOf kind a b) i d → v ≡ position x y → r ≡ transformOf o v d → Right (drawn r)
-        shown {d} l e f w =
+        pub shown : {d e : Draw} {v : Vector2} → r ≡ Of d → v ≡ position x y → e ≡ transformOf o v d → Right (drawn e)
+        shown {d} e f w =
             ap drawn (w ∙ (λ j. transformOf o (f j) d))
-            ∙ sym (asked-at (transformOf o (position x y)) (drawsOf kind a b) i d (omega (arith, count-is kind a b)) e)
+            ∙ asked-at (transformOf o (position x y)) (drawsOf kind a b) i d (sym (ap chosen e) ∙ R)
             ∙ good

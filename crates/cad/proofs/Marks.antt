@@ -10,7 +10,8 @@ use Rattle.draw.specs.Symbols.{whole}
 use Rattle.draw.specs.Transforms.{position}
 use Rattle.draw.specs.declared.Vector2.{Vector2}
 use Rattle.draw.specs.declared.Draw.the-variants.{Line, Circle}
-use Rattle.cad.specs.Answers.{Answer, drawn, no-shape, refused}
+use Rattle.draw.specs.Answers.{Answer, drawn, no-shape}
+use Rattle.cad.specs.Answers.{refused}
 use Rattle.cad.specs.Shapes.{within, wireShape, junctionShape}
 use Rattle.cad.proofs.Places.{Tested, Small, small, small-two, both}
 

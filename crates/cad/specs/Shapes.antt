@@ -1,7 +1,7 @@
 -- What the calls for a shape answer: the shapes of a component, and the marks of a wire and a joint.
-use Prim.Native.Nat.{ℕ, zero, suc}
+use Prim.Native.Nat.{ℕ}
 use mathlib.Core.Bool.{Bool, _&&_, cond}
-use mathlib.Core.List.{List, [], _∷_, map}
+use mathlib.Core.List.{map}
 use lib.Dec.{leb, eqb}
 use lib.IntN.{ℤ, natAbs}
 use lib.Signed.{ltZ}
@@ -9,23 +9,17 @@ use Rattle.orientation.specs.Orientations.{known}
 use Rattle.orientation.specs.declared.RotMirror.{RotMirror}
 use Rattle.label.specs.Labels.{heldLabel}
 use Rattle.label.specs.declared.Label.{Label}
-use Rattle.cad.specs.Answers.{Answer, drawn, no-shape, refused}
+use Rattle.cad.specs.Answers.{refused}
+use Rattle.draw.specs.Answers.{Answer, drawn, no-shape, asked}
 use Rattle.draw.specs.Symbols.{whole, drawsOf}
 use Rattle.draw.specs.Transforms.{position, transformOf}
-use Rattle.draw.specs.declared.Draw.{Draw}
 use Rattle.draw.specs.declared.Draw.the-variants.{Line, Circle}
 
 -- a coordinate from -limit to limit
 abbrev pub within : ℕ → ℤ → Bool
 within limit z = leb (natAbs z) limit
 
--- "A shape is asked for by its place in that order; past the last the reply is "no shape""
-unfoldable pub asked : ℕ → List Draw → Answer
-asked i [] = no-shape
-asked zero (d ∷ ds) = drawn d
-asked (suc i) (d ∷ ds) = asked i ds
-
--- ", and for a bad component, checked first, it is 4, 1 or 5."
+-- "past the last the reply is "no shape", and for a bad component, checked first, it is 4, 1 or 5."
 unfoldable pub componentShape : ℕ → RotMirror → ℤ → ℤ → Label → ℕ → Bool → Bool → Answer
 componentShape kind o x y label i a b =
     cond (leb kind 2 && known o)

@@ -5,6 +5,7 @@ ghost use lib.IntN.{natAbs};
 ghost use Rattle.draw.specs.Transforms.{position};
 ghost use Rattle.cad.specs.Answers.{answered};
 ghost use Rattle.cad.specs.Shapes.{within, componentShape, wireShape, junctionShape};
+use draw::Choice;
 use draw::Draw;
 use draw::Vector2;
 use edge::Placed;
@@ -79,11 +80,10 @@ pub fn component(
     if held.reply != 0 {
         return Shape::Mislabelled;
     }
-    if draw::count(kind) <= i {
-        return Shape::NoShape;
+    match draw::shape(kind, i, a, b) {
+        Choice::Of(d) => Shape::Drawn(d.transform(o, convert(x, y))),
+        Choice::Nothing => Shape::NoShape,
     }
-    let d = draw::shape(kind, i, a, b);
-    Shape::Drawn(d.transform(o, convert(x, y)))
 }
 
 // The mark of a wire.

@@ -37,8 +37,9 @@ draws-tame (suc zero) true true = tt
 draws-tame (suc zero) true false = tt
 draws-tame (suc zero) false true = tt
 draws-tame (suc zero) false false = tt
-draws-tame (suc (suc n)) true b = tt
-draws-tame (suc (suc n)) false b = tt
+draws-tame (suc (suc zero)) true b = tt
+draws-tame (suc (suc zero)) false b = tt
+draws-tame (suc (suc (suc n))) a b = tt
 
 -- ---- the rows of the eight
 
