@@ -13,10 +13,10 @@ use Rattle.orientation.specs.declared.RotMirror.{RotMirror}
 use Rattle.orientation.proofs.Eight.{of-eight}
 use Rattle.float.specs.Drawn.{Row, plus-x, minus-x, plus-y, minus-y}
 use Rattle.float.specs.Close.{tame}
-use Rattle.float.proofs.Drawn.{drawn-close}
+use Rattle.float.proofs.Drawn.{drawn-close, whole-close}
 use Rattle.draw.specs.Symbols.{whole, minus, bits, powerDraws, contactStatic, movingContact, coilStatic, innerCircle, drawsOf}
 use Rattle.draw.specs.Transforms.{position, movedOf, transformOf}
-use Rattle.draw.specs.Bound.{ClosePoint, CloseDraw, line, circle}
+use Rattle.draw.specs.Bound.{ClosePoint, CloseDraw, line, circle, MarkPoint}
 use Rattle.draw.specs.declared.Vector2.{Vector2}
 use Rattle.draw.specs.declared.Draw.{Draw}
 use Rattle.draw.specs.declared.Draw.the-variants.{Line, Circle}
@@ -65,3 +65,8 @@ module _ (o : RotMirror) (x y : ℤ) (t : T (known o)) (hx : natAbs x ≤ 5800) 
 
   pub transform-close : (kind : ℕ) (a b : Bool) (d : Draw) → d ∈ drawsOf kind a b → CloseDraw o x y d (transformOf o (position x y) d)
   transform-close kind a b d m = draw-close d (holds (all-reads (λ e. test (tameDraw e)) (drawsOf kind a b)) (draws-tame kind a b) d m)
+
+-- ---- the point of a wire or a joint is its position
+
+pub mark-point : (x y : ℤ) → natAbs x ≤ 6000 → natAbs y ≤ 6000 → MarkPoint x y (position x y)
+mark-point x y hx hy = record { in-x = whole-close x hx; in-y = whole-close y hy }
