@@ -1,0 +1,64 @@
+-- `dump::put_component` meets its contract: a letter, two numbers, two coordinates and the label.
+use mathlib.Core.Path.{ap}
+use native.Mathlib.Omega.{arith}
+use Rattle.dump.proofs.Runs.{puts-byte, puts-then, puts-as}
+use Rattle.dump.specs.Rows.{countWord, componentLine}
+use borrow.Author.Needs.{needs}
+use Rattle.dump.proofs.lines.put_component.Statement.{statement}
+use Rattle.dump.proofs.lines.put_component.Tie as tie
+
+put-byte-requires : tie.Need-put-byte-requires
+put-byte-requires c κs = search needs
+
+cast-put-count : tie.Need-cast-put-count
+cast-put-count c = search needs
+
+put-count-requires : tie.Need-put-count-requires
+put-count-requires c κs = search needs
+
+orient-requires : tie.Need-orient-requires
+orient-requires c κs = search needs
+
+cast-put-count-2 : tie.Need-cast-put-count-2
+cast-put-count-2 c = search needs
+
+put-count-requires-2 : tie.Need-put-count-requires-2
+put-count-requires-2 c κs = search needs
+
+put-place-requires : tie.Need-put-place-requires
+put-place-requires c κs = search needs
+
+put-place-requires-2 : tie.Need-put-place-requires-2
+put-place-requires-2 c κs = search needs
+
+put-label-requires : tie.Need-put-label-requires
+put-label-requires c κs = search needs
+
+put-byte-requires-2 : tie.Need-put-byte-requires-2
+put-byte-requires-2 c κs =
+    omega (arith, c .before .before .before .before .before .before .before .before .before .before .before .before .before .before .before .before .before .before .before .before .before .before .before .before .before .before .before .before .before .before .pre, c .before .before .before .before .before .before .before .before .before .before .before .before .before .before .before .before .before .before .before .before .before .before .before .before .before .put-byte .ensures .behind, c .before .before .before .before .before .before .before .before .before .before .before .before .before .before .before .before .before .before .before .before .put-count .ensures, c .before .before .before .before .before .before .before .before .before .before .before .before .before .before .before .put-count2 .ensures, c .before .before .before .before .before .before .before .before .before .before .before .put-place .ensures, c .before .before .before .before .before .before .before .put-place2 .ensures, c .before .before .before .put-label .ensures)
+
+same-length : tie.Need-same-length
+same-length c = search needs
+
+returns : tie.Need-returns
+unfolding componentLine
+returns c =
+    puts-then (puts-byte (c .before .before .before .before .before .before .before .before .before .before .before .before .before .before .before .before .before .before .before .before .before .before .before .before .before .before .before .before .put-byte .ensures)) (puts-then (c .before .before .before .before .before .before .before .before .before .before .before .before .before .before .before .before .before .before .before .before .before .before .before .put-count .ensures) (puts-then (puts-as (ap countWord (c .before .before .before .before .before .before .before .before .before .before .before .before .before .before .before .before .before .before .before .orient .ensures)) (c .before .before .before .before .before .before .before .before .before .before .before .before .before .before .before .before .before .before .put-count2 .ensures)) (puts-then (c .before .before .before .before .before .before .before .before .before .before .before .before .before .before .put-place .ensures) (puts-then (c .before .before .before .before .before .before .before .before .before .before .put-place2 .ensures) (puts-then (c .before .before .before .before .before .before .put-label .ensures) (puts-byte (c .before .before .put-byte2 .ensures)))))))
+
+pub put-component-spec : {M : Type 1} → statement M
+put-component-spec =
+    tie.close
+    (tie.spec
+    put-byte-requires
+    cast-put-count
+    put-count-requires
+    orient-requires
+    cast-put-count-2
+    put-count-requires-2
+    put-place-requires
+    put-place-requires-2
+    put-label-requires
+    put-byte-requires-2
+    same-length
+    returns)

@@ -1,0 +1,40 @@
+-- `dump::put_place` meets its contract: a space and the coordinate with its sign.
+use mathlib.Core.Path.{_≡_, sym, ap, _∙_}
+use native.Mathlib.Omega.{arith}
+use lib.IntN.{ℤ}
+use lib.ListN.{length}
+use mir.Syntax.{w32}
+use mir.Val.{toZ, ofZ}
+use Rattle.text.specs.Text.{signedOf}
+use Rattle.text.proofs.Puts.{put-as}
+use Rattle.dump.proofs.Runs.{puts-byte, puts-then, puts-short}
+use Rattle.dump.specs.Rows.{placeWord}
+use Rattle.dump.proofs.Lengths.{length-place, handed}
+use borrow.Author.Needs.{needs}
+use Rattle.dump.proofs.lines.put_place.Statement.{statement}
+use Rattle.dump.proofs.lines.put_place.Tie as tie
+
+put-byte-requires : tie.Need-put-byte-requires
+put-byte-requires c κs = search needs
+
+coordinate-requires : tie.Need-coordinate-requires
+coordinate-requires c κs = search needs
+
+put-signed-requires : tie.Need-put-signed-requires
+put-signed-requires c κs =
+    let a = c .before .before .before .before .before .before .before in
+    omega (arith, ap length (handed (a .args .n) (a .fits .n .fits) (c .before .coordinate .ensures)), length-place (a .args .n) (a .fits .n .fits))
+
+same-length : tie.Need-same-length
+same-length c = search needs
+
+returns : tie.Need-returns
+unfolding placeWord
+returns c =
+    let a = c .before .before .before .before .before .before .before .before .before .before in
+    puts-then (puts-byte (c .before .before .before .before .before .before .before .put-byte .ensures)) (puts-short (length-place (a .args .n) (a .fits .n .fits)) (put-as (handed (a .args .n) (a .fits .n .fits) (c .before .before .before .before .coordinate .ensures)) (c .before .before .put-signed .ensures)))
+
+pub put-place-spec : {M : Type 1} → statement M
+put-place-spec =
+    tie.close
+    (tie.spec put-byte-requires coordinate-requires put-signed-requires same-length returns)

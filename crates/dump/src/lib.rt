@@ -1,0 +1,29 @@
+// The rows of a drawing as text in a lent buffer.
+mod lines;
+mod tables;
+
+ghost use Rattle.sheet.specs.Rules.{Lawful};
+ghost use Rattle.dump.specs.Rows.{rowsOf, Puts, Space};
+use lines::put_tally;
+use sheet::Drawing;
+use sheet::Tally;
+use tables::put_components;
+use tables::put_joints;
+use tables::put_wires;
+use text::put_byte;
+
+// The tally, each wire, joint and component, and the line that ends them: 53,296 bytes always suffice.
+pub fn put_rows(out: &mut [u8], at: usize, t: Tally, d: Drawing) -> usize
+    requires { ⌜ Lawful d ⌝ ∗ ⌜ Space at 53296 ⌝ }
+    ensures { λ r. ⌜ Puts 53296 (now (out .entry)) at (rowsOf t d) (now (out .exit)) r ⌝ }
+{
+    let ws = d.wires;
+    let js = d.joints;
+    let cs = d.components;
+    let p = put_tally(out, at, t);
+    let p = put_wires(out, p, ws);
+    let p = put_joints(out, p, js);
+    let p = put_components(out, p, cs);
+    let p = put_byte(out, p, b'.');
+    put_byte(out, p, b'\n')
+}

@@ -1,0 +1,60 @@
+-- For the loop that takes the lines of a chunk: `start`, `on-line`, and the three ways out, `full`, `on-more` and `at-end`.
+use mathlib.Core.Path.{_≡_, refl, sym, ap, subst, _∙_}
+use mathlib.Core.List.{List, []}
+use Prim.Native.Nat.{ℕ, _+_, _≤_, _<_}
+use native.Mathlib.Omega.{arith}
+use lib.ListN.{length, take, drop}
+use Rattle.sheet.specs.declared.Drawing.{Drawing}
+use Rattle.sheet.specs.Rules.{Lawful}
+use Rattle.lines.specs.declared.Cut.{Cut}
+use Rattle.lines.specs.declared.Cut.the-variants.{Line, More}
+use Rattle.lines.specs.Chunks.{Next, Within}
+use Rattle.lines.proofs.Running.{Running, Done, start as run-start, on-line as run-line, on-more as run-more}
+use Rattle.lines.proofs.Runs.{run-end}
+use Rattle.step.specs.declared.Stepped.{Stepped}
+use Rattle.step.specs.Steps.{After}
+use Rattle.panel_list.specs.declared.answers.Taken.{Taken}
+use Rattle.panel_list.specs.Printing.{after, andThen, Prints, Takes}
+
+module _ (chunk held₀ : List ℕ) (begun : ℕ) (d₀ : Drawing) where
+  pub record Going (held : List ℕ) (at count : ℕ) (d : Drawing) (used : ℕ) (out : List ℕ) : Type 0 where
+    pub running : Running andThen chunk held₀ begun (after d₀ []) held at count (after d (take used out))
+    pub lawful : Lawful d
+    pub fits : used ≤ length out
+    -- nothing is printed before the first line
+    pub first : at ≡ 0 → used ≡ 0
+
+  pub start : (out : List ℕ) → Lawful d₀ → begun ≤ 81 → Going held₀ 0 begun d₀ 0 out
+  start out l h = record { running = run-start andThen chunk held₀ begun (after d₀ []) h; lawful = l; fits = omega arith; first = λ _. refl }
+
+  module _ {held : List ℕ} {at count : ℕ} {d : Drawing} {used : ℕ} {out : List ℕ} (g : Going held at count d used out) where
+    -- the way out at an index, if it is not the first
+    stops : (0 < length chunk → 0 < at) → Takes d₀ chunk held₀ begun (record { drawing = d; at = at; count = count; used = used }) held out
+    stops h = record { left = g .running .left; lawful = g .lawful; inside = g .running .inside; more = h; few = g .running .few; fits = g .fits }
+
+    pub full : length out < used + 8192 → 8192 ≤ length out → Takes d₀ chunk held₀ begun (record { drawing = d; at = at; count = count; used = used }) held out
+    full h k = stops (λ _. not-first (λ e. omega (arith, g .first e)))
+      where
+        not-first : {n : ℕ} → (n ≡ 0 → ⊥) → 0 < n
+        not-first {n} f = omega (arith, f)
+
+    pub at-end : length chunk ≤ at → Takes d₀ chunk held₀ begun (record { drawing = d; at = at; count = count; used = used }) held out
+    at-end h = stops (λ p. omega arith)
+
+    module _ {a : Cut} {held′ : List ℕ} (n : Next chunk at held count a held′) where
+      pub on-line : {k next : ℕ} {r : Stepped} {out′ : List ℕ} → a ≡ Line k next → Prints d (take k held′) used out r out′ → Going held′ next 0 (r .drawing) (r .length) out′
+      on-line {k} {next} e p =
+          let w : Within at (length chunk) (Line k next) = rw e at n .within in
+          record { running = run-line andThen chunk held₀ begun (after d₀ []) (g .running) n e (p .told); lawful = p .lawful; fits = p .fits; first = λ z. absurd (omega (arith, w .1)) }
+
+      pub on-more : {k : ℕ} → a ≡ More k → Takes d₀ chunk held₀ begun (record { drawing = d; at = length chunk; count = k; used = used }) held′ out
+      on-more {k} e =
+          let done = run-more andThen chunk held₀ begun (after d₀ []) (g .running) n e in
+          record {
+            left = run-end andThen (after d (take used out)) (take k held′) chunk (length chunk) (omega arith) ∙ done .whole;
+            lawful = g .lawful;
+            inside = omega arith;
+            more = λ h. h;
+            few = done .few;
+            fits = g .fits;
+          }

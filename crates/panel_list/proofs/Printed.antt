@@ -1,0 +1,42 @@
+-- A line's answer in the part of the buffer behind the bytes used.
+use mathlib.Core.Path.{_≡_, refl, sym, ap, _∙_}
+use mathlib.Core.List.{List, _++_, append-assoc}
+use Prim.Native.Nat.{ℕ, _+_, _-_, _≤_}
+use native.Mathlib.Omega.{arith}
+use lib.ListN.{length, take, drop, length-append, length-drop}
+use lib.Seq.{take-all, length-take-le, take-append-add, take-at}
+use Rattle.sheet.specs.declared.Drawing.{Drawing}
+use Rattle.sheet.specs.Rules.{Lawful}
+use Rattle.step.specs.declared.Stepped.{Stepped}
+use Rattle.step.specs.Steps.{After, Answers, stepOf}
+use Rattle.panel_list.specs.Printing.{after, andThen, Prints}
+
+-- what is printed fits where it stands
+pub answer-fits : {a : After} {old new : List ℕ} {r : Stepped} → Answers a old new r → length new ≡ length old → r .length ≤ length old
+answer-fits {a} {old} {new} {r} w e = omega (
+  arith,
+  w .length,
+  ap length (w .bytes),
+  length-append (a .printed) (drop (r .length) old),
+  length-drop (r .length) old,
+)
+
+-- as long as the part of the buffer behind an index, as it is lent
+pub length-take-all : (out : List ℕ) (used : ℕ) → length (take (length out - used) (drop used out)) ≡ length out - used
+length-take-all out used = ap length (take-all (length out - used) (drop used out) (omega (arith, length-drop used out))) ∙ length-drop used out
+
+-- and stands behind the bytes used
+behind : (front bs old rest : List ℕ) (n : ℕ) → n ≡ length bs → take (length front + n) (front ++ ((bs ++ drop n old) ++ rest)) ≡ front ++ bs
+behind front bs old rest n e =
+    take-append-add front ((bs ++ drop n old) ++ rest) n
+    ∙ ap (λ l. front ++ l) (ap (take n) (append-assoc bs (drop n old) rest) ∙ take-at bs (drop n old ++ rest) n (sym e))
+
+pub printed : (d : Drawing) (line : List ℕ) (used : ℕ) (out rest : List ℕ) {old new : List ℕ} {s : Stepped}
+    → Answers (stepOf d line) old new s → Lawful (s .drawing) → used ≤ length out → length new ≡ length old
+    → Prints d line used out (record { drawing = s .drawing; length = used + s .length }) (take used out ++ (new ++ rest))
+printed d line used out rest {old} {new} {s} w l h e =
+    let bytes : take (used + s .length) (take used out ++ (new ++ rest)) ≡ take used out ++ stepOf d line .printed =
+    ap (λ ys. take (used + s .length) (take used out ++ (ys ++ rest))) (w .bytes)
+    ∙ ap (λ k. take (k + s .length) (take used out ++ ((stepOf d line .printed ++ drop (s .length) old) ++ rest))) (sym (length-take-le used out h))
+    ∙ behind (take used out) (stepOf d line .printed) old rest (s .length) (w .length) in
+    record { told = λ i. after (w .drawing i) (bytes i); lawful = l; fits = omega (arith, answer-fits w e, length-append (take used out) (new ++ rest), length-append new rest, length-take-le used out h) }

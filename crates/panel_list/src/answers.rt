@@ -1,0 +1,87 @@
+// The lines of a chunk of input, taken as far as the room for what they print goes.
+ghost use Prim.Native.Nat.{_+_, _≤_};
+ghost use lib.ListN.{length};
+ghost use Rattle.sheet.specs.Rules.{Lawful};
+ghost use Rattle.panel_list.specs.Printing.{Prints, Takes};
+use lines::Cut;
+use lines::next_line;
+use sheet::Drawing;
+use step::Stepped;
+use step::step;
+
+// The drawing, how much of the chunk was taken, how many bytes of a line that goes on are held, and how many were printed.
+pub struct Taken {
+    pub drawing: Drawing,
+    pub at: usize,
+    pub count: usize,
+    pub used: usize,
+}
+
+// The drawing, and how many bytes of a line that goes on are held.
+pub struct Held {
+    pub drawing: Drawing,
+    pub count: usize,
+}
+
+// What a line prints, behind the bytes used; the answer's length is how many are used then.
+fn print(drawing: Drawing, line: &[u8], out: &mut [u8], used: usize) -> Stepped
+    requires { ⌜ Lawful drawing ⌝ ∗ ⌜ used + 8192 ≤ length (now out) ⌝ }
+    ensures { λ r. ⌜ Prints drawing (now (line .entry)) used (now (out .entry)) r (now (out .exit)) ⌝ }
+{
+    let s = step(drawing, line, &mut out[used..]);
+    let d = s.drawing;
+    Stepped {
+        drawing: d,
+        length: used + s.length,
+    }
+}
+
+// Takes lines until the chunk is used up or less than 8,192 bytes are left, which a line may need.
+pub fn take_lines(
+    drawing: Drawing,
+    chunk: &[u8],
+    held: &mut [u8],
+    begun: usize,
+    out: &mut [u8],
+) -> Taken
+    requires { ⌜ Lawful drawing ⌝ ∗ ⌜ 81 ≤ length (now held) ⌝ ∗ ⌜ begun ≤ 81 ⌝ ∗ ⌜ 8192 ≤ length (now out) ⌝ }
+    ensures { λ r. ⌜ Takes drawing (now (chunk .entry)) (now (held .entry)) begun r (now (held .exit)) (now (out .exit)) ⌝ }
+{
+    let mut d = drawing;
+    let mut at = 0;
+    let mut count = begun;
+    let mut used = 0;
+    while at < chunk.len() {
+        if out.len() - used < 8192 {
+            return Taken {
+                drawing: d,
+                at,
+                count,
+                used,
+            };
+        }
+        match next_line(chunk, at, held, count) {
+            Cut::Line { count: n, next } => {
+                let s = print(d, &held[..n], out, used);
+                d = s.drawing;
+                used = s.length;
+                count = 0;
+                at = next;
+            }
+            Cut::More { count: n } => {
+                return Taken {
+                    drawing: d,
+                    at: chunk.len(),
+                    count: n,
+                    used,
+                };
+            }
+        }
+    }
+    Taken {
+        drawing: d,
+        at,
+        count,
+        used,
+    }
+}

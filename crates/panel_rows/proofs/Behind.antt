@@ -1,0 +1,48 @@
+-- What stands behind an answer.
+use mathlib.Core.Path.{_≡_, refl, sym, ap, subst}
+use mathlib.Core.Bool.{Bool, true, false}
+use mathlib.Core.Logic.{⊎-elim}
+use mathlib.Core.List.{List, [], _∷_, _++_}
+use Prim.Native.Nat.{ℕ, _≤_}
+use native.Mathlib.Omega.{arith}
+use types.Run.{OneOf}
+use denote.Enum.Declared.{tagOf}
+use Rattle.sheet.specs.declared.Drawing.{Drawing}
+use Rattle.sheet.specs.declared.Joints.{Joints}
+use Rattle.sheet.specs.declared.Tally.{Tally}
+use Rattle.sheet.specs.Drawings.{Sized, listsOf, tallyOf, drawn}
+use Rattle.sheet.specs.Rules.{Lawful}
+use Rattle.sheet.proofs.Rules.{lawful-drawn}
+use Rattle.joints.specs.Tables.{Counted}
+use Rattle.script.specs.declared.Command.{Command}
+use Rattle.script.specs.declared.Command.the-variants.{Horizontal, Vertical, Place, Delete, Turn, Mirror, Nets, Unreadable}
+use Rattle.script.proofs.Command as command
+use Rattle.text.specs.Text.{Put}
+use Rattle.text.proofs.Puts.{put-then}
+use Rattle.dump.specs.Rows.{rowsOf, Puts}
+use Rattle.panel_rows.specs.Printing.{asksList, behind}
+
+-- no other command than `n` asks for the list
+pub asks-none : (c : Command) → OneOf (0 ∷ 1 ∷ 2 ∷ 3 ∷ 4 ∷ 5 ∷ 7 ∷ []) (tagOf command.the-type c) → false ≡ asksList c
+asks-none (Horizontal y x1 x2) k = refl
+asks-none (Vertical x y1 y2) k = refl
+asks-none (Place kind orient x y label) k = refl
+asks-none (Delete x y size) k = refl
+asks-none (Turn x y size) k = refl
+asks-none (Mirror x y size) k = refl
+asks-none Nets k = absurd (⊎-elim (λ e. omega (arith, e)) (⊎-elim (λ e. omega (arith, e)) (⊎-elim (λ e. omega (arith, e)) (⊎-elim (λ e. omega (arith, e)) (⊎-elim (λ e. omega (arith, e)) (⊎-elim (λ e. omega (arith, e)) (λ e. omega (arith, e))))))) k)
+asks-none Unreadable k = refl
+
+-- the joints of a lawful drawing are those of its wires and components
+pub lawful-counted : {d : Drawing} → Lawful d → Sized d → Counted d
+unfolding drawn
+lawful-counted {d} l z = record { wires = l .rule1 .wire-room; parts = l .rule1 .component-room; joints-are = ap (λ (e : Drawing). e .joints) (lawful-drawn l z) }
+
+module _ (d : Drawing) {a c : List ℕ} {i k : ℕ} where
+  pub list-behind : {list : Bool} {b : List ℕ} {j : ℕ} → list ≡ true → Put a i (46 ∷ []) b j → Put b j (10 ∷ []) c k → Puts 53296 a i (behind list d) c k
+  unfolding behind
+  list-behind e p q = rw e (record { put = put-then p q; short = omega arith })
+
+  pub rows-behind : {list : Bool} {t : Tally} → list ≡ false → t ≡ tallyOf (listsOf d) → Puts 53296 a i (rowsOf t d) c k → Puts 53296 a i (behind list d) c k
+  unfolding behind
+  rows-behind e q p = rw e (rw q at p)

@@ -1,0 +1,54 @@
+// One line of a script: its answer, and behind it the rows of the drawing.
+ghost use mathlib.Core.Path.{_≡_};
+ghost use Prim.Native.Nat.{_≤_};
+ghost use lib.ListN.{length};
+ghost use Rattle.sheet.specs.Rules.{Lawful};
+ghost use Rattle.script.specs.Reading.{commandOf};
+ghost use Rattle.step.specs.Steps.{Answers};
+ghost use Rattle.dump.specs.Rows.{Puts, Space};
+ghost use Rattle.panel_rows.specs.Printing.{asksList, behind, rowsStep};
+use dump::put_rows;
+use joints::tally::tally;
+use script::Command;
+use script::read_line;
+use sheet::Drawing;
+use step::Stepped;
+use step::step;
+use text::put_byte;
+
+// Whether a line asks for the list.
+fn asks_list(line: &[u8]) -> bool
+    ensures { λ r. ⌜ r ≡ asksList (commandOf (now (line .entry))) ⌝ }
+{
+    match read_line(line) {
+        Command::Nets => true,
+        _ => false,
+    }
+}
+
+// What stands behind an answer.
+fn put_behind(out: &mut [u8], at: usize, list: bool, d: Drawing) -> usize
+    requires { ⌜ Lawful d ⌝ ∗ ⌜ Space at 53296 ⌝ }
+    ensures { λ r. ⌜ Puts 53296 (now (out .entry)) at (behind list d) (now (out .exit)) r ⌝ }
+{
+    if list {
+        let p = put_byte(out, at, b'.');
+        return put_byte(out, p, b'\n');
+    }
+    let t = tally(d);
+    put_rows(out, at, t, d)
+}
+
+// What a line does and prints: 61,488 bytes always suffice, 8,192 for the answer and 53,296 for the rows.
+pub(crate) fn rows_step(d: Drawing, line: &[u8], out: &mut [u8]) -> Stepped
+    requires { ⌜ 61488 ≤ length (now out) ⌝ ∗ ⌜ Lawful d ⌝ }
+    ensures { λ r. ⌜ Answers (rowsStep d (now (line .entry))) (now (out .entry)) (now (out .exit)) r × Lawful (r .drawing) ⌝ }
+{
+    let list = asks_list(line);
+    let room: usize = 8192;
+    let s = step(d, line, &mut out[..room]);
+    let drawing = s.drawing;
+    let at = s.length;
+    let length = put_behind(out, at, list, drawing);
+    Stepped { drawing, length }
+}
