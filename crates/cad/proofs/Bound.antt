@@ -19,11 +19,13 @@ use Rattle.draw.specs.Bound.{CloseDraw, MarkPoint, CloseMark, stroke, ring}
 use Rattle.draw.specs.declared.Draw.{Draw}
 use Rattle.draw.specs.declared.Draw.the-variants.{Line, Circle}
 use Rattle.draw.proofs.Bound.{transform-close, mark-point}
+use Rattle.edge.specs.Coordinates.{ranged}
+use Rattle.symbol.specs.Symbols.{knownSymbol}
 use Rattle.draw.specs.Answers.{drawn, no-shape, asked}
 use Rattle.draw.proofs.Answers.{one-draw, no-draw}
 use Rattle.cad.specs.Answers.{refused}
 use Rattle.cad.specs.Bound.{Shown, ComponentClose, WireMark, WireClose, JunctionClose}
-use Rattle.cad.specs.Shapes.{within, componentShape, wireShape, junctionShape}
+use Rattle.cad.specs.Shapes.{componentShape, wireShape, junctionShape}
 use Rattle.cad.proofs.Answers.{no-refusal}
 
 found : (o : RotMirror) (x y : ℤ) (ds : List Draw) (i : ℕ) (r : Draw) → ((d : Draw) → d ∈ ds → CloseDraw o x y d (transformOf o (position x y) d)) → asked i (map (transformOf o (position x y)) ds) ≡ drawn r → Shown o x y i ds r
@@ -34,31 +36,31 @@ found o x y (d ∷ ds) (suc i) r h e = let s = found o x y ds i r (λ d m. h d (
 
 pub component-close : ComponentClose
 unfolding componentShape
-component-close kind o x y label i a b r = go (test (leb kind 2 && known o)) (test (within 5800 x && within 5800 y)) (test (eqb (heldLabel label .reply) 0))
+component-close kind o x y label i a b r = go (test (knownSymbol kind o)) (test (ranged 5800 x && ranged 5800 y)) (test (eqb (heldLabel label .reply) 0))
   where
-    go : {t u v : Bool} → Reads (T (leb kind 2 && known o)) t → Reads (T (within 5800 x && within 5800 y)) u → Reads (T (eqb (heldLabel label .reply) 0)) v
+    go : {t u v : Bool} → Reads (T (knownSymbol kind o)) t → Reads (T (ranged 5800 x && ranged 5800 y)) u → Reads (T (eqb (heldLabel label .reply) 0)) v
         → cond t (cond u (cond v (asked i (map (transformOf o (position x y)) (drawsOf kind a b))) (refused 5)) (refused 1)) (refused 4) ≡ drawn r → Shown o x y i (drawsOf kind a b) r
     go (pass k) (pass p) (pass l) e =
         found o x y (drawsOf kind a b) i r
-        (transform-close o x y (both-r (leb kind 2) (known o) k) (leb→le (natAbs x) 5800 (both-l (within 5800 x) (within 5800 y) p)) (leb→le (natAbs y) 5800 (both-r (within 5800 x) (within 5800 y) p)) kind a b) e
+        (transform-close o x y (both-r (leb kind 2) (known o) k) (leb→le (natAbs x) 5800 (both-l (ranged 5800 x) (ranged 5800 y) p)) (leb→le (natAbs y) 5800 (both-r (ranged 5800 x) (ranged 5800 y) p)) kind a b) e
     go (pass k) (pass p) (fail l) e = absurd (no-refusal 4 r e)
     go (pass k) (fail p) l e = absurd (no-refusal 0 r e)
     go (fail k) p l e = absurd (no-refusal 3 r e)
 
 -- ---- the marks: each point is a position
 
-wire-ends : (line start end : ℤ) → T (within 6000 line && (within 6000 start && within 6000 end)) → (natAbs line ≤ 6000) × ((natAbs start ≤ 6000) × (natAbs end ≤ 6000))
+wire-ends : (line start end : ℤ) → T (ranged 6000 line && (ranged 6000 start && ranged 6000 end)) → (natAbs line ≤ 6000) × ((natAbs start ≤ 6000) × (natAbs end ≤ 6000))
 wire-ends line start end t =
-    let u = both-r (within 6000 line) (within 6000 start && within 6000 end) t in (
-      leb→le (natAbs line) 6000 (both-l (within 6000 line) (within 6000 start && within 6000 end) t),
-      (leb→le (natAbs start) 6000 (both-l (within 6000 start) (within 6000 end) u), leb→le (natAbs end) 6000 (both-r (within 6000 start) (within 6000 end) u)),
+    let u = both-r (ranged 6000 line) (ranged 6000 start && ranged 6000 end) t in (
+      leb→le (natAbs line) 6000 (both-l (ranged 6000 line) (ranged 6000 start && ranged 6000 end) t),
+      (leb→le (natAbs start) 6000 (both-l (ranged 6000 start) (ranged 6000 end) u), leb→le (natAbs end) 6000 (both-r (ranged 6000 start) (ranged 6000 end) u)),
     )
 
 pub wire-close : WireClose
 unfolding wireShape
-wire-close vertical line start end r = go vertical (test (within 6000 line && (within 6000 start && within 6000 end))) (test (ltZ end start))
+wire-close vertical line start end r = go vertical (test (ranged 6000 line && (ranged 6000 start && ranged 6000 end))) (test (ltZ end start))
   where
-    go : (v : Bool) {t u : Bool} → Reads (T (within 6000 line && (within 6000 start && within 6000 end))) t → Reads (T (ltZ end start)) u
+    go : (v : Bool) {t u : Bool} → Reads (T (ranged 6000 line && (ranged 6000 start && ranged 6000 end))) t → Reads (T (ltZ end start)) u
         → cond t (cond u (refused 2) (cond v (drawn (Line (position line start) (position line end) (whole 6))) (drawn (Line (position start line) (position end line) (whole 6))))) (refused 1) ≡ drawn r → WireMark v line start end r
     go true (pass p) (fail l) e =
         let h = wire-ends line start end p in
@@ -71,11 +73,11 @@ wire-close vertical line start end r = go vertical (test (within 6000 line && (w
 
 pub junction-close : JunctionClose
 unfolding junctionShape
-junction-close x y count r = go (test (within 6000 x && within 6000 y)) (test (leb 3 count)) (test (eqb count 1))
+junction-close x y count r = go (test (ranged 6000 x && ranged 6000 y)) (test (leb 3 count)) (test (eqb count 1))
   where
-    go : {t u v : Bool} → Reads (T (within 6000 x && within 6000 y)) t → Reads (T (leb 3 count)) u → Reads (T (eqb count 1)) v
+    go : {t u v : Bool} → Reads (T (ranged 6000 x && ranged 6000 y)) t → Reads (T (leb 3 count)) u → Reads (T (eqb count 1)) v
         → cond t (cond u (drawn (Line (position x y) (position x y) (whole 40))) (cond v (drawn (Circle (position x y) (whole 10) (whole 1))) no-shape)) (refused 1) ≡ drawn r → CloseMark x y x y r
-    go (pass p) u v e = marked (mark-point x y (leb→le (natAbs x) 6000 (both-l (within 6000 x) (within 6000 y) p)) (leb→le (natAbs y) 6000 (both-r (within 6000 x) (within 6000 y) p))) u v e
+    go (pass p) u v e = marked (mark-point x y (leb→le (natAbs x) 6000 (both-l (ranged 6000 x) (ranged 6000 y) p)) (leb→le (natAbs y) 6000 (both-r (ranged 6000 x) (ranged 6000 y) p))) u v e
       where
         marked : MarkPoint x y (position x y) → {u v : Bool} → Reads (T (leb 3 count)) u → Reads (T (eqb count 1)) v
             → cond u (drawn (Line (position x y) (position x y) (whole 40))) (cond v (drawn (Circle (position x y) (whole 10) (whole 1))) no-shape) ≡ drawn r → CloseMark x y x y r

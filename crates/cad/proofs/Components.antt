@@ -3,14 +3,14 @@ use mathlib.Core.Path.{_≡_, sym, ap, _∙_}
 use Prim.Native.Nat.{ℕ}
 use mathlib.Core.Bool.{Bool, true, false, _&&_}
 use mathlib.Core.List.{map}
-use lib.Dec.{leb}
 use lib.IntN.{ℤ}
 use borrow.Author.Tests.{eq-eqb, ne-eqb}
-use Rattle.orientation.specs.Orientations.{known}
 use Rattle.orientation.specs.declared.RotMirror.{RotMirror}
 use Rattle.label.specs.Labels.{heldLabel}
 use Rattle.label.specs.declared.Label.{Label}
 use Rattle.label.specs.declared.Held.{Held}
+use Rattle.edge.specs.Coordinates.{ranged}
+use Rattle.symbol.specs.Symbols.{knownSymbol}
 use Rattle.draw.specs.Answers.{Answer, drawn, no-shape, chosen, asked}
 use Rattle.draw.specs.Symbols.{drawsOf}
 use Rattle.draw.specs.Transforms.{position, transformOf}
@@ -19,23 +19,23 @@ use Rattle.draw.specs.declared.Draw.{Draw}
 use Rattle.draw.specs.declared.Choice.{Choice}
 use Rattle.draw.specs.declared.Choice.the-variants.{Of, Nothing}
 use Rattle.cad.specs.Answers.{refused}
-use Rattle.cad.specs.Shapes.{within, componentShape}
+use Rattle.cad.specs.Shapes.{componentShape}
 use Rattle.cad.proofs.Asked.{asked-at, asked-past}
 use Rattle.cad.proofs.Places.{Tested}
 
 module _ (kind : ℕ) (o : RotMirror) where
-  symbol-test : {k t : Bool} → k ≡ known o → (leb kind 2 && k) ≡ t → (leb kind 2 && known o) ≡ t
-  symbol-test K t = sym (λ j. leb kind 2 && K j) ∙ t
+  symbol-test : {k t : Bool} → k ≡ knownSymbol kind o → k ≡ t → knownSymbol kind o ≡ t
+  symbol-test K t = sym K ∙ t
 
-  pub unknown : (x y : ℤ) (label : Label) (i : ℕ) (a b : Bool) {k : Bool} → k ≡ known o → (leb kind 2 && k) ≡ false → refused 4 ≡ componentShape kind o x y label i a b
+  pub unknown : (x y : ℤ) (label : Label) (i : ℕ) (a b : Bool) {k : Bool} → k ≡ knownSymbol kind o → k ≡ false → refused 4 ≡ componentShape kind o x y label i a b
   unfolding componentShape
   unknown x y label i a b K t = simp (symbol-test K t)
 
-  module _ {x y : ℤ} (label : Label) (i : ℕ) (a b : Bool) {k p q : Bool} (K : k ≡ known o) (t : (leb kind 2 && k) ≡ true) (X : Tested 5800 x p) (Y : Tested 5800 y q) where
+  module _ {x y : ℤ} (label : Label) (i : ℕ) (a b : Bool) {k p q : Bool} (K : k ≡ knownSymbol kind o) (t : k ≡ true) (X : Tested 5800 x p) (Y : Tested 5800 y q) where
     abbrev Right : Answer → Type 0
     Right r = r ≡ componentShape kind o x y label i a b
 
-    place-test : {u : Bool} → (p && q) ≡ u → (within 5800 x && within 5800 y) ≡ u
+    place-test : {u : Bool} → (p && q) ≡ u → (ranged 5800 x && ranged 5800 y) ≡ u
     place-test u = sym (λ j. X .is j && Y .is j) ∙ u
 
     pub off-sheet : (p && q) ≡ false → Right (refused 1)

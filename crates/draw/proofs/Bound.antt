@@ -10,8 +10,7 @@ use Rattle.lists.proofs.Tests.{test, holds, both-l, both-r}
 use Rattle.lists.proofs.Lists.{all-reads}
 use Rattle.orientation.specs.Orientations.{known}
 use Rattle.orientation.specs.declared.RotMirror.{RotMirror}
-use Rattle.orientation.proofs.Eight.{of-eight}
-use Rattle.float.specs.Drawn.{Row, plus-x, minus-x, plus-y, minus-y}
+use Rattle.orientation.proofs.Eight.{known-rows}
 use Rattle.float.specs.Close.{tame}
 use Rattle.float.proofs.Drawn.{drawn-close, whole-close}
 use Rattle.draw.specs.Symbols.{whole, minus, bits, powerDraws, contactStatic, movingContact, coilStatic, innerCircle, drawsOf}
@@ -41,15 +40,7 @@ draws-tame (suc (suc zero)) true b = tt
 draws-tame (suc (suc zero)) false b = tt
 draws-tame (suc (suc (suc n))) a b = tt
 
--- ---- the rows of the eight
-
-abbrev Rows : RotMirror → Type 0
-Rows o = Row (o .0) (o .1) × Row (o .2) (o .3)
-
-known-rows : (o : RotMirror) → T (known o) → Rows o
-known-rows o t =
-    of-eight Rows
-    ((plus-x, plus-y), ((minus-y, plus-x), ((minus-x, minus-y), ((plus-y, minus-x), ((minus-x, plus-y), ((minus-y, minus-x), ((plus-x, minus-y), ((plus-y, plus-x), tt)))))))) o t
+-- ---- a shape, turned by one of the eight and moved to a position
 
 module _ (o : RotMirror) (x y : ℤ) (t : T (known o)) (hx : natAbs x ≤ 5800) (hy : natAbs y ≤ 5800) where
   point-close : (p : Vector2) → T (tamePoint p) → ClosePoint o x y p (movedOf o (position x y) p)

@@ -11,7 +11,8 @@ use lib.Ieee.{Float, nan, inf, fin, binary32, up, down, round, ofInt}
 use lib.Ieee.Exact.{round-exact}
 use Rattle.lists.proofs.Tests.{both-l, both-r}
 use Rattle.edge.proofs.Whole.{one-times, minus-times, row-plus-left, row-minus-left, row-plus-right, row-minus-right, size-neg}
-use Rattle.float.specs.Drawn.{drawnOf, Row, plus-x, minus-x, plus-y, minus-y}
+use Rattle.orientation.specs.Rows.{Row, plus-x, minus-x, plus-y, minus-y}
+use Rattle.float.specs.Drawn.{drawnOf}
 use Rattle.float.specs.Close.{unit, signed, scale, whole-units, tame, exact, sumOf, near, negative-zero, Close, ClosePosition}
 use Rattle.float.proofs.Signed.{signed-size}
 use Rattle.float.proofs.Rounded.{rounded, rounded-near, rounded-whole}
