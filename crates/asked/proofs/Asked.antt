@@ -1,23 +1,23 @@
 -- Each answer, by what was found of the numbers.
 use Prim.Native.Nat.{ℕ}
-use native.Mathlib.Omega.{arith}
+use Rattle.lists.proofs.Tests.{both}
 use mathlib.Core.Bool.{Bool, true, false, _&&_, not}
 use mathlib.Core.Path.{_≡_, refl, sym, ap, _∙_}
 use borrow.Author.Tests.{eq-eqb, ne-eqb}
-use lib.Dec.{eqb, leb}
+use lib.Dec.{eqb}
 use lib.IntN.{ℤ}
 use lib.Signed.{leZ}
-use Rattle.edge.specs.Coordinates.{biased, toℕ, sizedReply, sizeOf}
+use Rattle.edge.specs.Coordinates.{biased, ranged, toℕ, sizedReply, sizeOf}
 use Rattle.orientation.specs.declared.RotMirror.{RotMirror}
-use Rattle.orientation.specs.Orientations.{known}
+use Rattle.symbol.specs.Symbols.{knownSymbol}
 use Rattle.label.specs.declared.Label.{Label}
 use Rattle.label.specs.declared.Held.{Held}
 use Rattle.label.specs.Labels.{heldLabel}
-use Rattle.asked.specs.declared.Found.{Found}
+use Rattle.edge.specs.declared.Found.{Found}
 use Rattle.asked.specs.declared.AskedWire.{AskedWire}
 use Rattle.asked.specs.declared.AskedPart.{AskedPart}
 use Rattle.asked.specs.declared.AskedPointer.{AskedPointer}
-use Rattle.asked.specs.Asked.{ranged, noWire, askedWire, noPart, askedPart, noPointer, askedPointer}
+use Rattle.asked.specs.Asked.{noWire, askedWire, noPart, askedPart, noPointer, askedPointer}
 use Rattle.asked.proofs.Ranges.{Tells}
 
 not-true : {b : Bool} → not b ≡ true → b ≡ false
@@ -27,11 +27,6 @@ not-true {b = false} e = refl
 not-false : {b : Bool} → not b ≡ false → b ≡ true
 not-false {b = true} e = refl
 not-false {b = false} e = sym e
-
--- both tests pass
-pub both : (a b : Bool) → (a && b) ≡ true → (a ≡ true) × (b ≡ true)
-both true b e = (refl, e)
-both false b e = absurd (let y : _≡_ {A = ℕ} 0 1 = cc in omega arith)
 
 module _ (v : Bool) (l s e : ℤ) {a b c : Found} (p : Tells (ranged 6000 l) (biased l) a) (q : Tells (ranged 6000 s) (biased s) b) (r : Tells (ranged 6000 e) (biased e) c) where
   tested : (a .inside && (b .inside && c .inside)) ≡ (ranged 6000 l && (ranged 6000 s && ranged 6000 e))
@@ -56,14 +51,14 @@ module _ (v : Bool) (l s e : ℤ) {a b c : Found} (p : Tells (ranged 6000 l) (bi
         let y = both (ranged 6000 s) (ranged 6000 e) (x .1) in
         rw (near, u) (λ i. record { reply = 0; wire = record { vertical = v; line = p .number (x .0) i; start = q .number (y .0) i; end = r .number (y .1) i } })
 
-module _ (k : ℕ) (o : RotMirror) (x y : ℤ) (l : Label) {j : Bool} (w : j ≡ known o) where
-  pub unknown-part : not (leb k 2 && j) ≡ true → noPart 4 ≡ askedPart k o x y l
+module _ (k : ℕ) (o : RotMirror) (x y : ℤ) (l : Label) {j : Bool} (w : j ≡ knownSymbol k o) where
+  pub unknown-part : not j ≡ true → noPart 4 ≡ askedPart k o x y l
   unfolding askedPart
-  unknown-part t = rw (ap (λ (b : Bool). leb k 2 && b) (sym w) ∙ not-true t)
+  unknown-part t = rw (sym w ∙ not-true t)
 
-  module _ (t : not (leb k 2 && j) ≡ false) {a b : Found} (p : Tells (ranged 5800 x) (biased x) a) (q : Tells (ranged 5800 y) (biased y) b) where
-    sort : (leb k 2 && known o) ≡ true
-    sort = ap (λ (b : Bool). leb k 2 && b) (sym w) ∙ not-false t
+  module _ (t : not j ≡ false) {a b : Found} (p : Tells (ranged 5800 x) (biased x) a) (q : Tells (ranged 5800 y) (biased y) b) where
+    sort : knownSymbol k o ≡ true
+    sort = sym w ∙ not-false t
 
     placed : (a .inside && b .inside) ≡ (ranged 5800 x && ranged 5800 y)
     placed = λ i. p .inside-is i && q .inside-is i

@@ -9,14 +9,11 @@ use lib.Signed.{leZ}
 use mir.Syntax.{w32}
 use mir.Val.{SFits}
 use mir.Facts.{toZ-ofZ}
-use Rattle.edge.specs.Coordinates.{biased, placeOf, toℕ, sizedReply, sizeOf}
-use Rattle.edge.specs.declared.Placed.{Placed}
-use Rattle.edge.specs.declared.Placed.the-variants.{Inside, Outside}
-use Rattle.edge.specs.declared.Sized.{Sized}
-use Rattle.edge.specs.declared.Sized.the-variants.{Is, Wrong}
-use Rattle.asked.specs.declared.Found.{Found}
-use Rattle.asked.specs.Asked.{ranged}
-use Rattle.asked.specs.Rows.{rowOf, sizeRow}
+use Rattle.edge.specs.Coordinates.{biased, ranged, found, placeOf, toℕ, sizedReply, sizeOf}
+use Rattle.edge.specs.declared.Found.{Found}
+use Rattle.edge.specs.declared.PointerSize.{PointerSize}
+use Rattle.edge.specs.declared.PointerSize.the-variants.{Is, Wrong}
+use Rattle.asked.specs.Rows.{sizeRow}
 use Rattle.asked.proofs.Handed.{bits, handed-two}
 
 -- r tells whether the test b passes, and if so it holds n
@@ -24,11 +21,11 @@ pub record Tells (b : Bool) (n : ℕ) (r : Found) : Type 0 where
   pub inside-is : r .inside ≡ b
   pub number : b ≡ true → r .at ≡ n
 
-row-tells : (k : ℕ) (z : ℤ) → Tells (ranged k z) (biased z) (rowOf (placeOf k z))
+row-tells : (k : ℕ) (z : ℤ) → Tells (ranged k z) (biased z) (placeOf k z)
 unfolding placeOf
 row-tells k z = go (ranged k z)
   where
-    go : (b : Bool) → Tells b (biased z) (rowOf (cond b (Inside (biased z)) Outside))
+    go : (b : Bool) → Tells b (biased z) (found b (biased z))
     go true = record { inside-is = refl; number = λ e. refl }
     go false = record { inside-is = refl; number = λ e. absurd (let y : _≡_ {A = ℕ} 0 1 = cc in omega arith) }
 
@@ -43,10 +40,10 @@ size-tells (pos n) = go (leb n 1000)
 
 -- z as it reaches `edge` comes out of its bits as it was
 module _ (z : ℤ) (f : SFits w32 z) {r : Found} where
-  pub in-range : (k : ℕ) {p : Placed} → p ≡ placeOf k (bits z) → r ≡ rowOf p → Tells (ranged k z) (biased z) r
-  in-range k e q = rw (q ∙ ap rowOf (e ∙ ap (placeOf k) (toZ-ofZ {w = w32} {z = z} f))) (row-tells k z)
+  pub in-range : (k : ℕ) → r ≡ placeOf k (bits z) → Tells (ranged k z) (biased z) r
+  in-range k e = rw (e ∙ ap (placeOf k) (toZ-ofZ {w = w32} {z = z} f)) (row-tells k z)
 
-  pub in-size : {s : Sized} → s ≡ sizeOf (bits z) → r ≡ sizeRow s → Tells (eqb (sizedReply (sizeOf z)) 0) (toℕ z) r
+  pub in-size : {s : PointerSize} → s ≡ sizeOf (bits z) → r ≡ sizeRow s → Tells (eqb (sizedReply (sizeOf z)) 0) (toℕ z) r
   in-size e q = rw (q ∙ ap sizeRow (e ∙ ap sizeOf (toZ-ofZ {w = w32} {z = z} f))) (size-tells z)
 
 -- and so do two numbers that are compared

@@ -7,13 +7,14 @@ use borrow.Author.Tests.{leb-true}
 use lib.Dec.{T, eqb, leb, leb→le, eqb→eq}
 use lib.IntN.{ℤ, pos, negsuc, natAbs}
 use lib.Signed.{leZ}
-use Rattle.lists.proofs.Tests.{both-l, both-r}
-use Rattle.edge.specs.Coordinates.{biased, insideOf, toℕ, sizedReply, sizeOf}
-use Rattle.edge.specs.declared.Sized.the-variants.{Is, Wrong}
+use Rattle.lists.proofs.Tests.{both, both-l, both-r}
+use Rattle.edge.specs.Coordinates.{biased, ranged, insideOf, toℕ, sizedReply, sizeOf}
+use Rattle.edge.specs.declared.PointerSize.the-variants.{Is, Wrong}
 use Rattle.edge.proofs.Whole.{toℕ-sub}
 use Rattle.edge.proofs.Places.{lifted, narrow-test}
 use Rattle.orientation.specs.declared.RotMirror.{RotMirror}
 use Rattle.orientation.specs.Orientations.{known}
+use Rattle.symbol.specs.Symbols.{knownSymbol}
 use Rattle.label.specs.declared.Label.{Label}
 use Rattle.label.specs.Labels.{heldLabel}
 use Rattle.label.proofs.Accepted.{accepted-holds}
@@ -22,8 +23,7 @@ use Rattle.sheet.specs.Wiring.{Drawable}
 use Rattle.asked.specs.declared.AskedWire.{AskedWire}
 use Rattle.asked.specs.declared.AskedPart.{AskedPart}
 use Rattle.asked.specs.declared.AskedPointer.{AskedPointer}
-use Rattle.asked.specs.Asked.{ranged, wireAt, noWire, askedWire, componentAt, noPart, askedPart, pointAt, noPointer, askedPointer}
-use Rattle.asked.proofs.Asked.{both}
+use Rattle.asked.specs.Asked.{wireAt, noWire, askedWire, componentAt, noPart, askedPart, pointAt, noPointer, askedPointer}
 
 -- ---- rows' numbers
 
@@ -75,12 +75,12 @@ module _ (v : Bool) (l s e : ℤ) where
 module _ (k : ℕ) (o : RotMirror) (x y : ℤ) (l : Label) where
   pub part-fits : {a : AskedPart} → a ≡ askedPart k o x y l → a .reply ≡ 0 → PartFits (a .part)
   unfolding askedPart
-  part-fits q = subst (λ (a : AskedPart). a .reply ≡ 0 → PartFits (a .part)) (sym q) (go (leb k 2 && known o) (ranged 5800 x && ranged 5800 y) (eqb (heldLabel l .reply) 0) refl refl refl)
+  part-fits q = subst (λ (a : AskedPart). a .reply ≡ 0 → PartFits (a .part)) (sym q) (go (knownSymbol k o) (ranged 5800 x && ranged 5800 y) (eqb (heldLabel l .reply) 0) refl refl refl)
     where
       A : Bool → Bool → Bool → AskedPart
       A a b c = cond a (cond b (cond c (record { reply = 0; part = componentAt k o x y l }) (noPart 5)) (noPart 1)) (noPart 4)
 
-      go : (a b c : Bool) → (leb k 2 && known o) ≡ a → (ranged 5800 x && ranged 5800 y) ≡ b → eqb (heldLabel l .reply) 0 ≡ c → A a b c .reply ≡ 0 → PartFits (A a b c .part)
+      go : (a b c : Bool) → (knownSymbol k o) ≡ a → (ranged 5800 x && ranged 5800 y) ≡ b → eqb (heldLabel l .reply) 0 ≡ c → A a b c .reply ≡ 0 → PartFits (A a b c .part)
       go true true true p q r z =
           let a = both (leb k 2) (known o) p in
           let b = both (ranged 5800 x) (ranged 5800 y) q in

@@ -1,26 +1,22 @@
 -- What a caller asks for, as rows hold it, and the refusals that the numbers alone decide, in document 01's order: 4, 1, 2, 3, 5.
 use Prim.Native.Nat.{ℕ}
 use mathlib.Core.Bool.{Bool, _&&_, cond}
-use lib.Dec.{eqb, leb}
-use lib.IntN.{ℤ, natAbs}
+use lib.Dec.{eqb}
+use lib.IntN.{ℤ}
 use lib.Signed.{leZ}
+pub use Rattle.edge.specs.Coordinates.{ranged}
 use Rattle.edge.specs.Coordinates.{biased, toℕ, sizedReply, sizeOf}
 use Rattle.orientation.specs.declared.RotMirror.{RotMirror}
-use Rattle.orientation.specs.Orientations.{known}
 use Rattle.label.specs.declared.Label.{Label}
 use Rattle.label.specs.Labels.{heldLabel}
 use Rattle.symbol.specs.declared.Point.{Point}
-use Rattle.symbol.specs.Symbols.{unused}
+use Rattle.symbol.specs.Symbols.{unused, knownSymbol}
 use Rattle.sheet.specs.declared.Wire.{Wire}
 use Rattle.sheet.specs.declared.Component.{Component}
 use Rattle.sheet.specs.Drawings.{zeroWire, zeroComponent}
 use Rattle.asked.specs.declared.AskedWire.{AskedWire}
 use Rattle.asked.specs.declared.AskedPart.{AskedPart}
 use Rattle.asked.specs.declared.AskedPointer.{AskedPointer}
-
--- a coordinate from -limit to limit
-abbrev pub ranged : ℕ → ℤ → Bool
-ranged limit z = leb (natAbs z) limit
 
 -- ---- a wire
 
@@ -48,7 +44,7 @@ noPart n = record { reply = n; part = zeroComponent }
 -- "4: unknown kind, or not one of the eight orientations", "5: label too long or with another byte"
 unfoldable pub askedPart : ℕ → RotMirror → ℤ → ℤ → Label → AskedPart
 askedPart kind o x y label =
-    cond (leb kind 2 && known o)
+    cond (knownSymbol kind o)
     (cond (ranged 5800 x && ranged 5800 y) (cond (eqb (heldLabel label .reply) 0) (record { reply = 0; part = componentAt kind o x y label }) (noPart 5)) (noPart 1))
     (noPart 4)
 

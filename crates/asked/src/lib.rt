@@ -1,15 +1,14 @@
 // What a caller asks for, as rows hold it, or the first refusal that the numbers alone decide.
 ghost use mathlib.Core.Path.{_≡_};
 ghost use Rattle.asked.specs.Asked.{noWire, askedWire, noPart, askedPart, noPointer, askedPointer};
-ghost use Rattle.asked.specs.Rows.{rowOf, sizeRow};
-use edge::Placed;
-use edge::Sized;
+ghost use Rattle.asked.specs.Rows.{sizeRow};
+use edge::Found;
+use edge::PointerSize;
 use edge::place;
 use edge::place_component;
 use label::Label;
 use label::held_label;
 use orientation::RotMirror;
-use orientation::is_known;
 use sheet::Component;
 use sheet::Wire;
 use symbol::Point;
@@ -33,36 +32,16 @@ pub struct AskedPointer {
     pub size: u16,
 }
 
-// A number as rows hold it, or none and 0.
-struct Found {
-    inside: bool,
-    at: u16,
-}
-
-fn row(p: Placed) -> Found
-    ensures { λ r. ⌜ r ≡ rowOf p ⌝ }
-{
-    match p {
-        Placed::Inside(n) => Found {
-            inside: true,
-            at: n,
-        },
-        Placed::Outside => Found {
-            inside: false,
-            at: 0,
-        },
-    }
-}
-
-fn size_row(s: Sized) -> Found
+// A size as a flag and the number, or none and 0.
+fn size_row(s: PointerSize) -> Found
     ensures { λ r. ⌜ r ≡ sizeRow s ⌝ }
 {
     match s {
-        Sized::Is(n) => Found {
+        PointerSize::Is(n) => Found {
             inside: true,
             at: n,
         },
-        Sized::Wrong => Found {
+        PointerSize::Wrong => Found {
             inside: false,
             at: 0,
         },
@@ -85,9 +64,9 @@ fn no_wire(reply: u8) -> AskedWire
 pub fn asked_wire(vertical: bool, line: i32, start: i32, end: i32) -> AskedWire
     ensures { λ r. ⌜ r ≡ askedWire vertical line start end ⌝ }
 {
-    let l = row(place(line));
-    let s = row(place(start));
-    let e = row(place(end));
+    let l = place(line);
+    let s = place(start);
+    let e = place(end);
     if !(l.inside & (s.inside & e.inside)) {
         return no_wire(1);
     }
@@ -120,11 +99,11 @@ fn no_part(reply: u8) -> AskedPart
 pub fn asked_part(kind: u8, rot_mirror: RotMirror, x: i32, y: i32, label: Label) -> AskedPart
     ensures { λ r. ⌜ r ≡ askedPart kind «rot_mirror» x y label ⌝ }
 {
-    if !((kind <= 2) & is_known(rot_mirror)) {
+    if !symbol::is_known(kind, rot_mirror) {
         return no_part(4);
     }
-    let a = row(place_component(x));
-    let b = row(place_component(y));
+    let a = place_component(x);
+    let b = place_component(y);
     if !(a.inside & b.inside) {
         return no_part(1);
     }
@@ -157,8 +136,8 @@ fn no_pointer(reply: u8) -> AskedPointer
 pub fn asked_pointer(x: i32, y: i32, size: i32) -> AskedPointer
     ensures { λ r. ⌜ r ≡ askedPointer x y size ⌝ }
 {
-    let a = row(place(x));
-    let b = row(place(y));
+    let a = place(x);
+    let b = place(y);
     let n = size_row(edge::size(size));
     if !(a.inside & b.inside) {
         return no_pointer(1);

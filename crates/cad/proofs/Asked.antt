@@ -1,21 +1,19 @@
 -- A shape asked for by its place in a list that is mapped: the shape there, mapped, or none past the last.
 use mathlib.Core.Path.{_≡_, refl, sym, ap}
-use Prim.Native.Nat.{ℕ, zero, suc, _≤_, _<_}
-use native.Mathlib.Omega.{arith}
+use Prim.Native.Nat.{ℕ, zero, suc}
 use mathlib.Core.List.{List, [], _∷_, map}
-use lib.ListN.{length, getD}
 use Rattle.draw.specs.declared.Draw.{Draw}
-use Rattle.cad.specs.Answers.{drawn, no-shape}
-use Rattle.cad.specs.Shapes.{asked}
+use Rattle.draw.specs.Answers.{drawn, no-shape, asked}
+use Rattle.draw.proofs.Answers.{one-draw, no-draw}
 
-pub asked-at : (f : Draw → Draw) (ds : List Draw) (i : ℕ) (r : Draw) → i < length ds → r ≡ getD ds i r → asked i (map f ds) ≡ drawn (f r)
+pub asked-at : (f : Draw → Draw) (ds : List Draw) (i : ℕ) (r : Draw) → drawn r ≡ asked i ds → drawn (f r) ≡ asked i (map f ds)
 unfolding asked
-asked-at f [] i r h e = absurd (omega arith)
-asked-at f (d ∷ ds) zero r h e = ap (λ (x : Draw). drawn (f x)) (sym e)
-asked-at f (d ∷ ds) (suc i) r h e = asked-at f ds i r (omega arith) e
+asked-at f [] i r e = absurd (no-draw r (sym e))
+asked-at f (d ∷ ds) zero r e = ap (λ (x : Draw). drawn (f x)) (one-draw r d e)
+asked-at f (d ∷ ds) (suc i) r e = asked-at f ds i r e
 
-pub asked-past : (f : Draw → Draw) (ds : List Draw) (i : ℕ) → length ds ≤ i → asked i (map f ds) ≡ no-shape
+pub asked-past : (f : Draw → Draw) (ds : List Draw) (i : ℕ) → no-shape ≡ asked i ds → no-shape ≡ asked i (map f ds)
 unfolding asked
-asked-past f [] i h = refl
-asked-past f (d ∷ ds) zero h = absurd (omega arith)
-asked-past f (d ∷ ds) (suc i) h = asked-past f ds i (omega arith)
+asked-past f [] i e = refl
+asked-past f (d ∷ ds) zero e = absurd (no-draw d e)
+asked-past f (d ∷ ds) (suc i) e = asked-past f ds i e

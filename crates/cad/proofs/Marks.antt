@@ -10,15 +10,18 @@ use Rattle.draw.specs.Symbols.{whole}
 use Rattle.draw.specs.Transforms.{position}
 use Rattle.draw.specs.declared.Vector2.{Vector2}
 use Rattle.draw.specs.declared.Draw.the-variants.{Line, Circle}
-use Rattle.cad.specs.Answers.{Answer, drawn, no-shape, refused}
-use Rattle.cad.specs.Shapes.{within, wireShape, junctionShape}
-use Rattle.cad.proofs.Places.{Tested, Small, small, small-two, both}
+use Rattle.lists.proofs.Tests.{both}
+use Rattle.edge.specs.Coordinates.{ranged}
+use Rattle.draw.specs.Answers.{Answer, drawn, no-shape}
+use Rattle.cad.specs.Answers.{refused}
+use Rattle.cad.specs.Shapes.{wireShape, junctionShape}
+use Rattle.cad.proofs.Places.{Tested, Small, small, small-two}
 
 module _ (vertical : Bool) {line start end : ℤ} {l s e : Bool} (L : Tested 6000 line l) (S : Tested 6000 start s) (E : Tested 6000 end e) where
   abbrev Wire : Answer → Type 0
   Wire r = r ≡ wireShape vertical line start end
 
-  range : {b : Bool} → (l && (s && e)) ≡ b → (within 6000 line && (within 6000 start && within 6000 end)) ≡ b
+  range : {b : Bool} → (l && (s && e)) ≡ b → (ranged 6000 line && (ranged 6000 start && ranged 6000 end)) ≡ b
   range t = sym (λ j. L .is j && (S .is j && E .is j)) ∙ t
 
   pub wire-outside : (l && (s && e)) ≡ false → Wire (refused 1)
@@ -46,7 +49,7 @@ module _ {x y : ℤ} (count : ℕ) {a b : Bool} (X : Tested 6000 x a) (Y : Teste
   abbrev Mark : Answer → Type 0
   Mark r = r ≡ junctionShape x y count
 
-  at-point : {t : Bool} → (a && b) ≡ t → (within 6000 x && within 6000 y) ≡ t
+  at-point : {t : Bool} → (a && b) ≡ t → (ranged 6000 x && ranged 6000 y) ≡ t
   at-point t = sym (λ j. X .is j && Y .is j) ∙ t
 
   pub mark-outside : (a && b) ≡ false → Mark (refused 1)

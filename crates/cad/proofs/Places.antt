@@ -1,8 +1,8 @@
 -- The tests of coordinates, and positions in floats, as the machine hands them over: as bits, which come out as they went in.
-use mathlib.Core.Path.{_≡_, refl, sym, ap, _∙_, subst}
+use mathlib.Core.Path.{_≡_, sym, ap, _∙_, subst}
 use Prim.Native.Nat.{ℕ, _≤_, _^_}
 use native.Mathlib.Omega.{arith}
-use mathlib.Core.Bool.{Bool, true, false, _&&_, cond}
+use mathlib.Core.Bool.{Bool, true, _&&_}
 use lib.Dec.{T, le→leb, lt→ltb}
 use lib.IntN.{ℤ, pos, negsuc, natAbs}
 use lib.Signed.{ltZ}
@@ -11,13 +11,11 @@ use mir.Syntax.{w32}
 use mir.Val.{SFits, toZ, ofZ}
 use mir.Facts.{toZ-ofZ}
 use borrow.Author.Tests.{leb-true}
-use Rattle.lists.proofs.Tests.{clash}
-use Rattle.edge.specs.Coordinates.{biased, placeOf}
-use Rattle.edge.specs.declared.Placed.{Placed}
-use Rattle.edge.specs.declared.Placed.the-variants.{Inside, Outside}
+use Rattle.lists.proofs.Tests.{both}
+use Rattle.edge.specs.Coordinates.{ranged, placeOf}
+use Rattle.edge.specs.declared.Found.{Found}
 use Rattle.draw.specs.Transforms.{position}
 use Rattle.draw.specs.declared.Vector2.{Vector2}
-use Rattle.cad.specs.Shapes.{within}
 
 abbrev handed : ℤ → ℤ
 handed z = toZ w32 (ofZ w32 z)
@@ -27,26 +25,18 @@ as-it-was {z} f = toZ-ofZ {w = w32} {z = z} f
 
 -- ---- what `place` and `place_component` tell is the test
 
-abbrev pub is-inside : Placed → Bool
-is-inside (Inside n) = true
-is-inside Outside = false
-
-pub place-test : (limit : ℕ) {z : ℤ} {r p : Placed} → SFits w32 z → r ≡ placeOf limit (handed z) → r ≡ p → is-inside p ≡ within limit z
+pub place-test : (limit : ℕ) {z : ℤ} {p : Found} → SFits w32 z → p ≡ placeOf limit (handed z) → p .inside ≡ ranged limit z
 unfolding placeOf
-place-test limit {z} f e q = ap is-inside (sym q ∙ e ∙ ap (placeOf limit) (as-it-was f)) ∙ go (within limit z)
-  where
-    go : (b : Bool) → is-inside (cond b (Inside (biased z)) Outside) ≡ b
-    go true = refl
-    go false = refl
+place-test limit f e = ap (λ (p : Found). p .inside) (e ∙ ap (placeOf limit) (as-it-was f))
 
 -- ---- a test r of a coordinate z that is handed over
 
 pub record Tested (limit : ℕ) (z : ℤ) (r : Bool) : Type 0 where
   pub fits : SFits w32 z
-  pub is : r ≡ within limit z
+  pub is : r ≡ ranged limit z
 
-pub tested : (limit : ℕ) {z : ℤ} {r : Bool} → SFits w32 z → r ≡ within limit (handed z) → Tested limit z r
-tested limit f e = record { fits = f; is = e ∙ ap (within limit) (as-it-was f) }
+pub tested : (limit : ℕ) {z : ℤ} {r : Bool} → SFits w32 z → r ≡ ranged limit (handed z) → Tested limit z r
+tested limit f e = record { fits = f; is = e ∙ ap (ranged limit) (as-it-was f) }
 
 module _ {limit : ℕ} {z w : ℤ} {a b : Bool} (Z : Tested limit z a) (W : Tested limit w b) where
   pub less-test : {t : Bool} → ltZ (handed z) (handed w) ≡ t → ltZ z w ≡ t
@@ -54,10 +44,6 @@ module _ {limit : ℕ} {z w : ℤ} {a b : Bool} (Z : Tested limit z a) (W : Test
 
   pub converted : {p : Vector2} → p ≡ position (handed z) (handed w) → p ≡ position z w
   converted e = e ∙ (λ i. position (as-it-was (Z .fits) i) (as-it-was (W .fits) i))
-
-pub both : (a b : Bool) → (a && b) ≡ true → (a ≡ true) × (b ≡ true)
-both true b e = (refl, e)
-both false b e = absurd (clash e refl)
 
 -- where the test passes, z is as small as a position
 abbrev pub Small : ℤ → Type 0

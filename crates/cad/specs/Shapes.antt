@@ -1,35 +1,26 @@
 -- What the calls for a shape answer: the shapes of a component, and the marks of a wire and a joint.
-use Prim.Native.Nat.{ℕ, zero, suc}
+use Prim.Native.Nat.{ℕ}
 use mathlib.Core.Bool.{Bool, _&&_, cond}
-use mathlib.Core.List.{List, [], _∷_, map}
+use mathlib.Core.List.{map}
 use lib.Dec.{leb, eqb}
-use lib.IntN.{ℤ, natAbs}
+use lib.IntN.{ℤ}
 use lib.Signed.{ltZ}
-use Rattle.orientation.specs.Orientations.{known}
+use Rattle.edge.specs.Coordinates.{ranged}
+use Rattle.symbol.specs.Symbols.{knownSymbol}
 use Rattle.orientation.specs.declared.RotMirror.{RotMirror}
 use Rattle.label.specs.Labels.{heldLabel}
 use Rattle.label.specs.declared.Label.{Label}
-use Rattle.cad.specs.Answers.{Answer, drawn, no-shape, refused}
+use Rattle.cad.specs.Answers.{refused}
+use Rattle.draw.specs.Answers.{Answer, drawn, no-shape, asked}
 use Rattle.draw.specs.Symbols.{whole, drawsOf}
 use Rattle.draw.specs.Transforms.{position, transformOf}
-use Rattle.draw.specs.declared.Draw.{Draw}
 use Rattle.draw.specs.declared.Draw.the-variants.{Line, Circle}
 
--- a coordinate from -limit to limit
-abbrev pub within : ℕ → ℤ → Bool
-within limit z = leb (natAbs z) limit
-
--- "A shape is asked for by its place in that order; past the last the reply is "no shape""
-unfoldable pub asked : ℕ → List Draw → Answer
-asked i [] = no-shape
-asked zero (d ∷ ds) = drawn d
-asked (suc i) (d ∷ ds) = asked i ds
-
--- ", and for a bad component, checked first, it is 4, 1 or 5."
+-- "past the last the reply is "no shape", and for a bad component, checked first, it is 4, 1 or 5."
 unfoldable pub componentShape : ℕ → RotMirror → ℤ → ℤ → Label → ℕ → Bool → Bool → Answer
 componentShape kind o x y label i a b =
-    cond (leb kind 2 && known o)
-    (cond (within 5800 x && within 5800 y)
+    cond (knownSymbol kind o)
+    (cond (ranged 5800 x && ranged 5800 y)
     (cond (eqb (heldLabel label .reply) 0)
     (asked i (map (transformOf o (position x y)) (drawsOf kind a b)))
     (refused 5))
@@ -39,7 +30,7 @@ componentShape kind o x y label i a b =
 -- "Wire: line, width 6; a bad wire gives 1 or 2". `line` is the y of a horizontal wire, the x of a vertical one
 unfoldable pub wireShape : Bool → ℤ → ℤ → ℤ → Answer
 wireShape vertical line start end =
-    cond (within 6000 line && (within 6000 start && within 6000 end))
+    cond (ranged 6000 line && (ranged 6000 start && ranged 6000 end))
     (cond (ltZ end start)
     (refused 2)
     (cond vertical
@@ -51,7 +42,7 @@ wireShape vertical line start end =
 -- width 1; else no shape."
 unfoldable pub junctionShape : ℤ → ℤ → ℕ → Answer
 junctionShape x y count =
-    cond (within 6000 x && within 6000 y)
+    cond (ranged 6000 x && ranged 6000 y)
     (cond (leb 3 count)
     (drawn (Line (position x y) (position x y) (whole 40)))
     (cond (eqb count 1)

@@ -2,12 +2,13 @@
 ghost use mathlib.Core.Path.{_≡_};
 ghost use Prim.Native.Nat.{_≤_};
 ghost use lib.IntN.{natAbs};
+ghost use Rattle.edge.specs.Coordinates.{ranged};
 ghost use Rattle.draw.specs.Transforms.{position};
 ghost use Rattle.cad.specs.Answers.{answered};
-ghost use Rattle.cad.specs.Shapes.{within, componentShape, wireShape, junctionShape};
+ghost use Rattle.cad.specs.Shapes.{componentShape, wireShape, junctionShape};
+use draw::Choice;
 use draw::Draw;
 use draw::Vector2;
-use edge::Placed;
 use label::Label;
 use orientation::RotMirror;
 
@@ -27,22 +28,18 @@ pub enum Shape {
 
 // Whether a component may stand at the coordinate.
 fn is_position(z: i32) -> bool
-    ensures { λ r. ⌜ r ≡ within 5800 z ⌝ }
+    ensures { λ r. ⌜ r ≡ ranged 5800 z ⌝ }
 {
-    match edge::place_component(z) {
-        Placed::Inside(_) => true,
-        Placed::Outside => false,
-    }
+    let p = edge::place_component(z);
+    p.inside
 }
 
 // Whether a wire or a joint may be at the coordinate.
 fn on_sheet(z: i32) -> bool
-    ensures { λ r. ⌜ r ≡ within 6000 z ⌝ }
+    ensures { λ r. ⌜ r ≡ ranged 6000 z ⌝ }
 {
-    match edge::place(z) {
-        Placed::Inside(_) => true,
-        Placed::Outside => false,
-    }
+    let p = edge::place(z);
+    p.inside
 }
 
 // A position in floats, exactly.
@@ -69,7 +66,7 @@ pub fn component(
 ) -> Shape
     ensures { λ r. ⌜ answered r ≡ componentShape kind o x y label i a b ⌝ }
 {
-    if !((kind <= 2) & orientation::is_known(o)) {
+    if !symbol::is_known(kind, o) {
         return Shape::Unknown;
     }
     if !(is_position(x) & is_position(y)) {
@@ -79,11 +76,10 @@ pub fn component(
     if held.reply != 0 {
         return Shape::Mislabelled;
     }
-    if draw::count(kind) <= i {
-        return Shape::NoShape;
+    match draw::shape(kind, i, a, b) {
+        Choice::Of(d) => Shape::Drawn(d.transform(o, convert(x, y))),
+        Choice::Nothing => Shape::NoShape,
     }
-    let d = draw::shape(kind, i, a, b);
-    Shape::Drawn(d.transform(o, convert(x, y)))
 }
 
 // The mark of a wire.

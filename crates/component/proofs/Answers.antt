@@ -14,56 +14,38 @@ use borrow.Author.Tests.{leb-true}
 use Rattle.lists.proofs.Tests.{agree, both-l, both-r}
 use Rattle.orientation.specs.Orientations.{known}
 use Rattle.orientation.specs.declared.RotMirror.{RotMirror}
-use Rattle.edge.specs.Coordinates.{coordOf, biased, placeOf, insideOf}
-use Rattle.edge.specs.declared.Placed.{Placed}
-use Rattle.edge.specs.declared.Placed.the-variants.{Inside, Outside}
+use Rattle.edge.specs.Coordinates.{coordOf, biased, ranged, placeOf, insideOf}
+use Rattle.edge.specs.declared.Found.{Found}
 use Rattle.edge.proofs.Places.{back, narrow-test}
-use Rattle.symbol.specs.Symbols.{Offset, off, minus, applied, movedOf, unused, padsAt, padBlock, padsFor, refusalOf, padsOf, lowAt, highAt, boundsAt, boundsFor, aabbOf, Sound}
+use Rattle.symbol.specs.Symbols.{Offset, knownSymbol, off, minus, applied, movedOf, unused, padsAt, padBlock, padsFor, refusalOf, padsOf, lowAt, highAt, boundsAt, boundsFor, aabbOf, Sound}
 use Rattle.symbol.specs.declared.Point.{Point}
 use Rattle.symbol.specs.declared.PadsReply.{PadsReply}
 use Rattle.symbol.specs.declared.BoundsReply.{BoundsReply}
 use Rattle.symbol.proofs.Symbols.{refuse, tests-placeable}
 use Rattle.symbol.proofs.Exact.{near, high-near, exact}
-use Rattle.component.specs.Answers.{origin, positionOf, answer, positioned, componentPadsOf, spanned, componentBoxOf, heldOf, shownOf}
+use Rattle.component.specs.Answers.{origin, positionOf, answer, componentPadsOf, spanned, componentBoxOf, heldOf, shownOf}
 use Rattle.component.specs.declared.Position.{Position}
 use Rattle.component.specs.declared.PadsAnswer.{PadsAnswer}
 use Rattle.component.specs.declared.BoxAnswer.{BoxAnswer}
 use Rattle.component.proofs.Order.{coord-min, coord-max}
 
--- ---- a component's coordinate, as rows hold it
-module _ (z : ℤ) (f : SFits w32 z) (p : Placed) (e : p ≡ placeOf 5800 (toZ w32 (ofZ w32 z))) where
-  -- z comes out of its bits as it was
-  handed : p ≡ placeOf 5800 z
-  handed = e ∙ ap (placeOf 5800) (toZ-ofZ {w = w32} {z = z} f)
+-- ---- a component's coordinate, as rows hold it; z comes out of its bits as it was
+pub held-at : (z : ℤ) → SFits w32 z → {p : Found} → p ≡ placeOf 5800 (toZ w32 (ofZ w32 z)) → p .at ≡ heldOf z
+unfolding placeOf heldOf
+held-at z f e = ap (λ (p : Found). p .at) (e ∙ ap (placeOf 5800) (toZ-ofZ {w = w32} {z = z} f))
 
-  pub held-inside : (n : ℕ) → p ≡ Inside n → n ≡ heldOf z
-  unfolding placeOf heldOf
-  held-inside n q = go (positioned z) (sym q ∙ handed)
-    where
-      go : (b : Bool) → Inside n ≡ cond b (Inside (biased z)) Outside → n ≡ cond b (biased z) 0
-      go true h = cc
-      go false h = absurd (let y : _≡_ {A = ℕ} 0 1 = cc in omega arith)
-
-  pub held-outside : p ≡ Outside → 0 ≡ heldOf z
-  unfolding placeOf heldOf
-  held-outside q = go (positioned z) (sym q ∙ handed)
-    where
-      go : (b : Bool) → Outside ≡ cond b (Inside (biased z)) Outside → 0 ≡ cond b (biased z) 0
-      go true h = absurd (let y : _≡_ {A = ℕ} 0 1 = cc in omega arith)
-      go false h = refl
-
-held-test : (z : ℤ) → insideOf (heldOf z) ≡ positioned z
+held-test : (z : ℤ) → insideOf (heldOf z) ≡ ranged 5800 z
 unfolding heldOf
-held-test z = go (positioned z) refl
+held-test z = go (ranged 5800 z) refl
   where
-    go : (b : Bool) → positioned z ≡ b → insideOf (cond b (biased z) 0) ≡ b
+    go : (b : Bool) → ranged 5800 z ≡ b → insideOf (cond b (biased z) 0) ≡ b
     go true e = let h = leb-true (natAbs z) 5800 e in sym (narrow-test z (omega arith)) ∙ e
     go false e = refl
 
-held-back : (z : ℤ) → T (positioned z) → coordOf (heldOf z) ≡ z
+held-back : (z : ℤ) → T (ranged 5800 z) → coordOf (heldOf z) ≡ z
 unfolding heldOf
 held-back z t =
-    let e : positioned z ≡ true = agree (positioned z) true (λ u. tt) (λ u. t) in
+    let e : ranged 5800 z ≡ true = agree (ranged 5800 z) true (λ u. tt) (λ u. t) in
     let h = leb-true (natAbs z) 5800 e in
     (λ i. coordOf (cond (e i) (biased z) 0)) ∙ back z (omega arith)
 
@@ -74,11 +56,11 @@ by-reply true false f g h i = h
 by-reply false p f g h i = i
 
 module _ (kind : ℕ) (o : RotMirror) (x y : ℤ) where
-  reply : cond (leb kind 2 && known o) (cond (positioned x && positioned y) 0 1) 4 ≡ refusalOf kind o (heldOf x) (heldOf y)
-  reply = refuse kind o (heldOf x) (heldOf y) (leb kind 2 && known o) (positioned x && positioned y) refl (λ i. held-test x i && held-test y i)
+  reply : cond (knownSymbol kind o) (cond (ranged 5800 x && ranged 5800 y) 0 1) 4 ≡ refusalOf kind o (heldOf x) (heldOf y)
+  reply = refuse kind o (heldOf x) (heldOf y) (knownSymbol kind o) (ranged 5800 x && ranged 5800 y) refl (λ i. held-test x i && held-test y i)
 
   -- what is right where kind, orientation and position are
-  module _ (k : T (leb kind 2 && known o)) (p : T (positioned x && positioned y)) where
+  module _ (k : T (knownSymbol kind o)) (p : T (ranged 5800 x && ranged 5800 y)) where
     sound : Sound o (heldOf x) (heldOf y)
     sound = tests-placeable kind o (heldOf x) (heldOf y) k (subst T (sym (λ i. held-test x i && held-test y i)) p) .sound
 
@@ -86,8 +68,8 @@ module _ (kind : ℕ) (o : RotMirror) (x y : ℤ) where
     point q t =
         let h = exact o (heldOf x) (heldOf y) sound q t in
         λ i. record {
-          x = (h .in-x ∙ (λ j. held-back x (both-l (positioned x) (positioned y) p) j +ℤ applied o q .dx)) i;
-          y = (h .in-y ∙ (λ j. held-back y (both-r (positioned x) (positioned y) p) j +ℤ applied o q .dy)) i;
+          x = (h .in-x ∙ (λ j. held-back x (both-l (ranged 5800 x) (ranged 5800 y) p) j +ℤ applied o q .dx)) i;
+          y = (h .in-y ∙ (λ j. held-back y (both-r (ranged 5800 x) (ranged 5800 y) p) j +ℤ applied o q .dy)) i;
         }
 
 -- ---- the pads
@@ -98,7 +80,7 @@ shownPads r = record {
   count = r .pads .count;
 }
 
-pads-right : (kind : ℕ) (o : RotMirror) (x y : ℤ) → T (leb kind 2 && known o) → T (positioned x && positioned y)
+pads-right : (kind : ℕ) (o : RotMirror) (x y : ℤ) → T (knownSymbol kind o) → T (ranged 5800 x && ranged 5800 y)
     → shownPads (padsFor 0 (padBlock kind o (heldOf x) (heldOf y))) ≡ answer 0 (map (positionOf o x y) (padsAt kind))
 pads-right zero o x y k p = let at = point 0 o x y k p in λ i. record { reply = 0; points = at (off (pos 0) (pos 0)) tt i ∷ origin ∷ origin ∷ []; count = 1 }
 pads-right (suc zero) o x y k p = let at = point 1 o x y k p in λ i. record { reply = 0; points = at (off (pos 0) (minus 100)) tt i ∷ at (off (minus 50) (pos 100)) tt i ∷ at (off (pos 50) (pos 100)) tt i ∷ []; count = 3 }
@@ -112,7 +94,7 @@ module _ (kind : ℕ) (o : RotMirror) (x y : ℤ) where
   abbrev at : Offset → Point
   at q = movedOf o (heldOf x) (heldOf y) q
 
-  box-right : T (leb kind 2 && known o) → T (positioned x && positioned y) → shownBox (boundsFor 0 (boundsAt kind o (heldOf x) (heldOf y))) ≡ spanned (positionOf o x y (lowAt kind)) (positionOf o x y (highAt kind))
+  box-right : T (knownSymbol kind o) → T (ranged 5800 x && ranged 5800 y) → shownBox (boundsFor 0 (boundsAt kind o (heldOf x) (heldOf y))) ≡ spanned (positionOf o x y (lowAt kind)) (positionOf o x y (highAt kind))
   box-right k p =
       (λ i. record {
         reply = 0;
@@ -126,13 +108,13 @@ module _ (kind : ℕ) (o : RotMirror) (x y : ℤ) where
   unfolding padsOf componentPadsOf
   pads-shown =
       let f : ℕ → PadsAnswer = λ n. shownPads (padsFor n (padBlock kind o (heldOf x) (heldOf y))) in
-      ap f (sym (reply kind o x y)) ∙ by-reply (leb kind 2 && known o) (positioned x && positioned y) f (pads-right kind o x y) refl refl
+      ap f (sym (reply kind o x y)) ∙ by-reply (knownSymbol kind o) (ranged 5800 x && ranged 5800 y) f (pads-right kind o x y) refl refl
 
   box-shown : shownBox (aabbOf kind o (heldOf x) (heldOf y)) ≡ componentBoxOf kind o x y
   unfolding aabbOf componentBoxOf
   box-shown =
       let f : ℕ → BoxAnswer = λ n. shownBox (boundsFor n (boundsAt kind o (heldOf x) (heldOf y))) in
-      ap f (sym (reply kind o x y)) ∙ by-reply (leb kind 2 && known o) (positioned x && positioned y) f box-right refl refl
+      ap f (sym (reply kind o x y)) ∙ by-reply (knownSymbol kind o) (ranged 5800 x && ranged 5800 y) f box-right refl refl
 
   -- ---- what `component_pads` and `component_box` return, by what their calls ensure
   module _ (f : SFits w32 x) (g : SFits w32 y) (m n : ℕ) (em : m ≡ heldOf (toZ w32 (ofZ w32 x))) (en : n ≡ heldOf (toZ w32 (ofZ w32 y))) where

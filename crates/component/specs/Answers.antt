@@ -2,15 +2,13 @@
 use Prim.Native.Nat.{ℕ}
 use mathlib.Core.Bool.{Bool, _&&_, cond}
 use mathlib.Core.List.{List, [], _∷_, _++_, map}
-use lib.Dec.{leb}
-use lib.IntN.{ℤ, pos, natAbs, _+ℤ_}
+use lib.IntN.{ℤ, pos, _+ℤ_}
 use lib.Signed.{leZ}
 use lib.ListN.{length, take}
-use Rattle.orientation.specs.Orientations.{known}
 use Rattle.orientation.specs.declared.RotMirror.{RotMirror}
-use Rattle.edge.specs.Coordinates.{coordOf, biased}
+use Rattle.edge.specs.Coordinates.{coordOf, biased, ranged}
 use Rattle.symbol.specs.declared.Point.{Point}
-use Rattle.symbol.specs.Symbols.{Offset, applied, padsAt, lowAt, highAt}
+use Rattle.symbol.specs.Symbols.{Offset, applied, knownSymbol, padsAt, lowAt, highAt}
 use Rattle.component.specs.declared.Position.{Position}
 use Rattle.component.specs.declared.PadsAnswer.{PadsAnswer}
 use Rattle.component.specs.declared.BoxAnswer.{BoxAnswer}
@@ -26,13 +24,9 @@ positionOf o x y q = record { x = x +ℤ applied o q .dx; y = y +ℤ applied o q
 abbrev pub answer : ℕ → List Position → PadsAnswer
 answer n ps = record { reply = n; points = take 3 (ps ++ (origin ∷ origin ∷ origin ∷ [])); count = length ps }
 
--- "Component position: −5,800 to 5,800."
-abbrev pub positioned : ℤ → Bool
-positioned z = leb (natAbs z) 5800
-
--- "A box, pads or a turn asked of a bad kind, orientation or position get 4 or 1, in that order, and zeros for every number."
+-- "Component position: −5,800 to 5,800." "A box, pads or a turn asked of a bad kind, orientation or position get 4 or 1, in that order, and zeros for every number."
 unfoldable pub componentPadsOf : ℕ → RotMirror → ℤ → ℤ → PadsAnswer
-componentPadsOf kind o x y = cond (leb kind 2 && known o) (cond (positioned x && positioned y) (answer 0 (map (positionOf o x y) (padsAt kind))) (answer 1 [])) (answer 4 [])
+componentPadsOf kind o x y = cond (knownSymbol kind o) (cond (ranged 5800 x && ranged 5800 y) (answer 0 (map (positionOf o x y) (padsAt kind))) (answer 1 [])) (answer 4 [])
 
 -- the lesser and the greater of two whole numbers
 abbrev pub minZ : ℤ → ℤ → ℤ
@@ -49,13 +43,13 @@ abbrev pub noBox : ℕ → BoxAnswer
 noBox n = record { reply = n; low = origin; high = origin }
 
 unfoldable pub componentBoxOf : ℕ → RotMirror → ℤ → ℤ → BoxAnswer
-componentBoxOf kind o x y = cond (leb kind 2 && known o) (cond (positioned x && positioned y) (spanned (positionOf o x y (lowAt kind)) (positionOf o x y (highAt kind))) (noBox 1)) (noBox 4)
+componentBoxOf kind o x y = cond (knownSymbol kind o) (cond (ranged 5800 x && ranged 5800 y) (spanned (positionOf o x y (lowAt kind)) (positionOf o x y (highAt kind))) (noBox 1)) (noBox 4)
 
 -- ---- what the functions below the calls return
 
 -- a component's coordinate as rows hold it, or 0, which is no position
 unfoldable pub heldOf : ℤ → ℕ
-heldOf z = cond (positioned z) (biased z) 0
+heldOf z = cond (ranged 5800 z) (biased z) 0
 
 -- the coordinates of a point that is used, else zeros
 abbrev pub shownOf : Point → Bool → Position

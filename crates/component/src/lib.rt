@@ -1,7 +1,6 @@
 // The pads and the box of a component by its coordinates, whole numbers as document 01 has them.
 ghost use mathlib.Core.Path.{_≡_};
 ghost use Rattle.component.specs.Answers.{componentPadsOf, componentBoxOf, heldOf, shownOf};
-use edge::Placed;
 use orientation::RotMirror;
 use symbol::Point;
 
@@ -29,10 +28,8 @@ pub struct BoxAnswer {
 fn held(x: i32) -> u16
     ensures { λ r. ⌜ r ≡ heldOf x ⌝ }
 {
-    match edge::place_component(x) {
-        Placed::Inside(n) => n,
-        Placed::Outside => 0,
-    }
+    let p = edge::place_component(x);
+    p.at
 }
 
 // The coordinates of a point that is used, else zeros.

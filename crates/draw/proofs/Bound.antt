@@ -10,13 +10,12 @@ use Rattle.lists.proofs.Tests.{test, holds, both-l, both-r}
 use Rattle.lists.proofs.Lists.{all-reads}
 use Rattle.orientation.specs.Orientations.{known}
 use Rattle.orientation.specs.declared.RotMirror.{RotMirror}
-use Rattle.orientation.proofs.Eight.{of-eight}
-use Rattle.float.specs.Drawn.{Row, plus-x, minus-x, plus-y, minus-y}
+use Rattle.orientation.proofs.Eight.{known-rows}
 use Rattle.float.specs.Close.{tame}
-use Rattle.float.proofs.Drawn.{drawn-close}
+use Rattle.float.proofs.Drawn.{drawn-close, whole-close}
 use Rattle.draw.specs.Symbols.{whole, minus, bits, powerDraws, contactStatic, movingContact, coilStatic, innerCircle, drawsOf}
 use Rattle.draw.specs.Transforms.{position, movedOf, transformOf}
-use Rattle.draw.specs.Bound.{ClosePoint, CloseDraw, line, circle}
+use Rattle.draw.specs.Bound.{ClosePoint, CloseDraw, line, circle, MarkPoint}
 use Rattle.draw.specs.declared.Vector2.{Vector2}
 use Rattle.draw.specs.declared.Draw.{Draw}
 use Rattle.draw.specs.declared.Draw.the-variants.{Line, Circle}
@@ -37,18 +36,11 @@ draws-tame (suc zero) true true = tt
 draws-tame (suc zero) true false = tt
 draws-tame (suc zero) false true = tt
 draws-tame (suc zero) false false = tt
-draws-tame (suc (suc n)) true b = tt
-draws-tame (suc (suc n)) false b = tt
+draws-tame (suc (suc zero)) true b = tt
+draws-tame (suc (suc zero)) false b = tt
+draws-tame (suc (suc (suc n))) a b = tt
 
--- ---- the rows of the eight
-
-abbrev Rows : RotMirror → Type 0
-Rows o = Row (o .0) (o .1) × Row (o .2) (o .3)
-
-known-rows : (o : RotMirror) → T (known o) → Rows o
-known-rows o t =
-    of-eight Rows
-    ((plus-x, plus-y), ((minus-y, plus-x), ((minus-x, minus-y), ((plus-y, minus-x), ((minus-x, plus-y), ((minus-y, minus-x), ((plus-x, minus-y), ((plus-y, plus-x), tt)))))))) o t
+-- ---- a shape, turned by one of the eight and moved to a position
 
 module _ (o : RotMirror) (x y : ℤ) (t : T (known o)) (hx : natAbs x ≤ 5800) (hy : natAbs y ≤ 5800) where
   point-close : (p : Vector2) → T (tamePoint p) → ClosePoint o x y p (movedOf o (position x y) p)
@@ -64,3 +56,8 @@ module _ (o : RotMirror) (x y : ℤ) (t : T (known o)) (hx : natAbs x ≤ 5800) 
 
   pub transform-close : (kind : ℕ) (a b : Bool) (d : Draw) → d ∈ drawsOf kind a b → CloseDraw o x y d (transformOf o (position x y) d)
   transform-close kind a b d m = draw-close d (holds (all-reads (λ e. test (tameDraw e)) (drawsOf kind a b)) (draws-tame kind a b) d m)
+
+-- ---- the point of a wire or a joint is its position
+
+pub mark-point : (x y : ℤ) → natAbs x ≤ 6000 → natAbs y ≤ 6000 → MarkPoint x y (position x y)
+mark-point x y hx hy = record { in-x = whole-close x hx; in-y = whole-close y hy }

@@ -1,26 +1,33 @@
 -- A shape at its place in a table of the code, and in the list of the definition.
-use mathlib.Core.Path.{_≡_, refl, ap, _∙_}
-use Prim.Native.Nat.{ℕ, zero, suc, _<_}
+use mathlib.Core.Path.{_≡_, refl, ap}
+use Prim.Native.Nat.{ℕ, zero, suc, _≤_, _<_}
 use native.Mathlib.Omega.{arith}
 use mathlib.Core.Bool.{Bool}
 use mathlib.Core.List.{List, [], _∷_, _++_}
 use lib.ListN.{length, getD}
-use Rattle.draw.specs.Symbols.{powerDraws, contactStatic, coilStatic, drawsOf, countOf}
+use Rattle.draw.specs.declared.Draw.{Draw}
+use Rattle.draw.specs.Answers.{drawn, no-shape, asked}
+use Rattle.draw.specs.Symbols.{powerDraws, contactStatic, coilStatic, drawsOf}
 
-pub count-is : (kind : ℕ) (a b : Bool) → length (drawsOf kind a b) ≡ countOf kind
+-- "Power has 3, Contact 7, Coil 7"
+pub count-is : (a b : Bool) → (length (drawsOf 0 a b) ≡ 3) × ((length (drawsOf 1 a b) ≡ 7) × (length (drawsOf 2 a b) ≡ 7))
 unfolding drawsOf powerDraws contactStatic coilStatic
-count-is zero a b = refl
-count-is (suc zero) a b = refl
-count-is (suc (suc n)) a b = refl
+count-is a b = (refl, (refl, refl))
 
--- ---- for lists
+-- among the first, at the end, and past the last
+pub first : (xs ys : List Draw) (i : ℕ) (d : Draw) → i < length xs → drawn (getD xs i d) ≡ asked i (xs ++ ys)
+unfolding asked
+first [] ys i d h = absurd (omega arith)
+first (x ∷ xs) ys zero d h = refl
+first (x ∷ xs) ys (suc i) d h = first xs ys i d (omega arith)
 
--- at a place of the list, what stands for a missing element makes no difference
-pub present : {A : Type 0} (xs : List A) (i : ℕ) (d e : A) → i < length xs → getD xs i d ≡ getD xs i e
-present [] i d e h = absurd (omega arith)
-present (x ∷ xs) zero d e h = refl
-present (x ∷ xs) (suc i) d e h = present xs i d e (omega arith)
+pub end : (xs : List Draw) {d e : Draw} → d ≡ e → drawn d ≡ asked (length xs) (xs ++ (e ∷ []))
+unfolding asked
+end [] p = ap drawn p
+end (x ∷ xs) p = end xs p
 
--- the same with a last element that is told by an equation
-pub present-last : {A : Type 0} (xs : List A) {x y : A} (i : ℕ) (d e : A) → x ≡ y → i < length (xs ++ (y ∷ [])) → getD (xs ++ (x ∷ [])) i d ≡ getD (xs ++ (y ∷ [])) i e
-present-last xs {x} {y} i d e p h = ap (λ z. getD (xs ++ (z ∷ [])) i d) p ∙ present (xs ++ (y ∷ [])) i d e h
+pub past : (xs : List Draw) (i : ℕ) → length xs ≤ i → no-shape ≡ asked i xs
+unfolding asked
+past [] i h = refl
+past (x ∷ xs) zero h = absurd (omega arith)
+past (x ∷ xs) (suc i) h = past xs i (omega arith)

@@ -2,7 +2,7 @@
 use lib.IntN.{ℤ}
 use lib.Ieee.{Float}
 use Rattle.orientation.specs.declared.RotMirror.{RotMirror}
-use Rattle.float.specs.Close.{Close}
+use Rattle.float.specs.Close.{Close, ClosePosition}
 use Rattle.draw.specs.declared.Vector2.{Vector2}
 use Rattle.draw.specs.declared.Draw.{Draw}
 use Rattle.draw.specs.declared.Draw.the-variants.{Line, Circle}
@@ -16,3 +16,13 @@ pub record ClosePoint (o : RotMirror) (x y : ℤ) (p r : Vector2) : Type 0 where
 pub data CloseDraw (o : RotMirror) (x y : ℤ) : Draw → Draw → Type 0 where
   line : {p q p′ q′ : Vector2} {width : Float} → ClosePoint o x y p p′ → ClosePoint o x y q q′ → CloseDraw o x y (Line p q width) (Line p′ q′ width)
   circle : {p p′ : Vector2} {radius width : Float} → ClosePoint o x y p p′ → CloseDraw o x y (Circle p radius width) (Circle p′ radius width)
+
+-- the point of a wire or a joint at (x, y) is drawn at r
+pub record MarkPoint (x y : ℤ) (r : Vector2) : Type 0 where
+  pub in-x : ClosePosition x (r .x)
+  pub in-y : ClosePosition y (r .y)
+
+-- what is drawn of a wire from (x, y) to (v, w), or of a joint at (x, y)
+pub data CloseMark (x y v w : ℤ) : Draw → Type 0 where
+  stroke : {p q : Vector2} {width : Float} → MarkPoint x y p → MarkPoint v w q → CloseMark x y v w (Line p q width)
+  ring : {p : Vector2} {radius width : Float} → MarkPoint x y p → CloseMark x y v w (Circle p radius width)

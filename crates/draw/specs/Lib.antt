@@ -1,3 +1,4 @@
 pub mod Symbols
+pub mod Answers
 pub mod Transforms
 pub mod Bound

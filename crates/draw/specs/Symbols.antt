@@ -70,13 +70,9 @@ contactDraws a b = contactStatic ++ (movingContact a b ∷ [])
 abbrev pub coilDraws : Bool → List Draw
 coilDraws on = coilStatic ++ (innerCircle on ∷ [])
 
--- "Kind: 0 Power, 1 Contact, 2 Coil." "a contact's last depends on A and B, a coil's on its state": a is a coil's state
+-- "Kind: 0 Power, 1 Contact, 2 Coil." "a contact's last depends on A and B, a coil's on its state": a is a coil's state. Another kind has no shape
 unfoldable pub drawsOf : ℕ → Bool → Bool → List Draw
 drawsOf zero a b = powerDraws
 drawsOf (suc zero) a b = contactDraws a b
-drawsOf (suc (suc n)) a b = coilDraws a
-
--- "Power has 3, Contact 7, Coil 7"
-abbrev pub countOf : ℕ → ℕ
-countOf zero = 3
-countOf (suc n) = 7
+drawsOf (suc (suc zero)) a b = coilDraws a
+drawsOf (suc (suc (suc n))) a b = []

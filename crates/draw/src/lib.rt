@@ -7,7 +7,6 @@ use orientation::RotMirror;
 
 mod symbols;
 
-pub use symbols::count;
 pub use symbols::shape;
 
 // A point of a shape.
@@ -20,6 +19,12 @@ pub struct Vector2 {
 pub enum Draw {
     Line(Vector2, Vector2, f32),
     Circle(Vector2, f32, f32),
+}
+
+// The shape asked for, or no shape.
+pub enum Choice {
+    Of(Draw),
+    Nothing,
 }
 
 // One coordinate: a * x + b * y, then + the position t, each operation rounded.

@@ -1,8 +1,8 @@
 // The shapes of the three symbols, in the order of symbol.rs. A number built with a square root has the bits that a run of the Rust gives it.
 ghost use mathlib.Core.Path.{_≡_};
-ghost use Prim.Native.Nat.{_<_};
-ghost use lib.ListN.{getD};
-ghost use Rattle.draw.specs.Symbols.{powerDraws, movingContact, contactDraws, innerCircle, coilDraws, countOf, drawsOf};
+ghost use Rattle.draw.specs.Answers.{chosen, asked};
+ghost use Rattle.draw.specs.Symbols.{powerDraws, movingContact, contactDraws, innerCircle, coilDraws, drawsOf};
+use super::Choice;
 use super::Draw;
 use super::Vector2;
 
@@ -20,21 +20,89 @@ const X2: f32 = f32::from_bits(0x420b3ff7);
 
 const Y2: f32 = f32::from_bits(0x425c2294);
 
-// Shape i of a power symbol.
-fn power(i: usize) -> Draw
-    requires { ⌜ i < 3 ⌝ }
-    ensures { λ r. ⌜ r ≡ getD powerDraws i r ⌝ }
+// power::DRAW.
+const POWER: [Draw; 3] = [
+    Draw::Line(
+        Vector2 { x: 0.0, y: -100.0 },
+        Vector2 { x: 0.0, y: 0.0 },
+        6.0,
+    ),
+    Draw::Line(
+        Vector2 { x: 0.0, y: -100.0 },
+        Vector2 { x: -WING, y: -50.0 },
+        6.0,
+    ),
+    Draw::Line(
+        Vector2 { x: 0.0, y: -100.0 },
+        Vector2 { x: WING, y: -50.0 },
+        6.0,
+    ),
+];
+
+// contact::STATIC_DRAW: the lines and the eyes of C, A and B.
+const CONTACT: [Draw; 6] = [
+    Draw::Line(
+        Vector2 { x: 0.0, y: -100.0 },
+        Vector2 { x: 0.0, y: -60.0 },
+        6.0,
+    ),
+    Draw::Line(
+        Vector2 { x: -50.0, y: 60.0 },
+        Vector2 { x: -50.0, y: 100.0 },
+        6.0,
+    ),
+    Draw::Line(
+        Vector2 { x: 50.0, y: 60.0 },
+        Vector2 { x: 50.0, y: 100.0 },
+        6.0,
+    ),
+    Draw::Circle(Vector2 { x: 0.0, y: -50.0 }, 10.0, 6.0),
+    Draw::Circle(Vector2 { x: -50.0, y: 50.0 }, 10.0, 6.0),
+    Draw::Line(
+        Vector2 { x: 50.0, y: 50.0 },
+        Vector2 { x: 50.0, y: 50.0 },
+        26.0,
+    ),
+];
+
+// coil::STATIC_DRAW.
+const COIL: [Draw; 6] = [
+    Draw::Line(
+        Vector2 { x: 0.0, y: -100.0 },
+        Vector2 { x: 0.0, y: -50.0 },
+        6.0,
+    ),
+    Draw::Line(
+        Vector2 { x: 0.0, y: 50.0 },
+        Vector2 { x: 0.0, y: 100.0 },
+        6.0,
+    ),
+    Draw::Circle(Vector2 { x: 0.0, y: 0.0 }, 50.0, 6.0),
+    Draw::Line(
+        Vector2 { x: -25.0, y: 100.0 },
+        Vector2 { x: 25.0, y: 100.0 },
+        6.0,
+    ),
+    Draw::Line(
+        Vector2 { x: -25.0, y: 100.0 },
+        Vector2 { x: 0.0, y: TIP },
+        6.0,
+    ),
+    Draw::Line(
+        Vector2 { x: 25.0, y: 100.0 },
+        Vector2 { x: 0.0, y: TIP },
+        6.0,
+    ),
+];
+
+// Shape i of a power symbol, or no shape.
+fn power(i: usize) -> Choice
+    ensures { λ r. ⌜ chosen r ≡ asked i powerDraws ⌝ }
 {
-    let top = Vector2 { x: 0.0, y: -100.0 };
-    let foot = Vector2 { x: 0.0, y: 0.0 };
-    let left = Vector2 { x: -WING, y: -50.0 };
-    let right = Vector2 { x: WING, y: -50.0 };
-    let draws = [
-        Draw::Line(top, foot, 6.0),
-        Draw::Line(top, left, 6.0),
-        Draw::Line(top, right, 6.0),
-    ];
-    draws[i]
+    if i < 3 {
+        return Choice::Of(POWER[i]);
+    }
+    Choice::Nothing
 }
 
 // A contact's moving line: in the middle where A and B are alike, else toward the closed one.
@@ -56,31 +124,17 @@ fn moving_contact(a: bool, b: bool) -> Draw
     Draw::Line(p, q, 6.0)
 }
 
-// Shape i of a contact.
-fn contact(i: usize, a: bool, b: bool) -> Draw
-    requires { ⌜ i < 7 ⌝ }
-    ensures { λ r. ⌜ r ≡ getD (contactDraws a b) i r ⌝ }
+// Shape i of a contact, or no shape.
+fn contact(i: usize, a: bool, b: bool) -> Choice
+    ensures { λ r. ⌜ chosen r ≡ asked i (contactDraws a b) ⌝ }
 {
-    let c_pad = Vector2 { x: 0.0, y: -100.0 };
-    let c_end = Vector2 { x: 0.0, y: -60.0 };
-    let c_eye = Vector2 { x: 0.0, y: -50.0 };
-    let a_pad = Vector2 { x: -50.0, y: 100.0 };
-    let a_end = Vector2 { x: -50.0, y: 60.0 };
-    let a_eye = Vector2 { x: -50.0, y: 50.0 };
-    let b_pad = Vector2 { x: 50.0, y: 100.0 };
-    let b_end = Vector2 { x: 50.0, y: 60.0 };
-    let b_eye = Vector2 { x: 50.0, y: 50.0 };
-    let moving = moving_contact(a, b);
-    let draws = [
-        Draw::Line(c_pad, c_end, 6.0),
-        Draw::Line(a_end, a_pad, 6.0),
-        Draw::Line(b_end, b_pad, 6.0),
-        Draw::Circle(c_eye, 10.0, 6.0),
-        Draw::Circle(a_eye, 10.0, 6.0),
-        Draw::Line(b_eye, b_eye, 26.0),
-        moving,
-    ];
-    draws[i]
+    if i < 6 {
+        return Choice::Of(CONTACT[i]);
+    }
+    if i == 6 {
+        return Choice::Of(moving_contact(a, b));
+    }
+    Choice::Nothing
 }
 
 // A coil's inner circle, by its state.
@@ -94,47 +148,27 @@ fn inner_circle(on: bool) -> Draw
     Draw::Circle(middle, 50.0, 6.0)
 }
 
-// Shape i of a coil that is on or off.
-fn coil(i: usize, on: bool) -> Draw
-    requires { ⌜ i < 7 ⌝ }
-    ensures { λ r. ⌜ r ≡ getD (coilDraws on) i r ⌝ }
+// Shape i of a coil that is on or off, or no shape.
+fn coil(i: usize, on: bool) -> Choice
+    ensures { λ r. ⌜ chosen r ≡ asked i (coilDraws on) ⌝ }
 {
-    let pad = Vector2 { x: 0.0, y: -100.0 };
-    let top = Vector2 { x: 0.0, y: -50.0 };
-    let middle = Vector2 { x: 0.0, y: 0.0 };
-    let bottom = Vector2 { x: 0.0, y: 50.0 };
-    let foot = Vector2 { x: 0.0, y: 100.0 };
-    let left = Vector2 { x: -25.0, y: 100.0 };
-    let right = Vector2 { x: 25.0, y: 100.0 };
-    let tip = Vector2 { x: 0.0, y: TIP };
-    let inner = inner_circle(on);
-    let draws = [
-        Draw::Line(pad, top, 6.0),
-        Draw::Line(bottom, foot, 6.0),
-        Draw::Circle(middle, 50.0, 6.0),
-        Draw::Line(left, right, 6.0),
-        Draw::Line(left, tip, 6.0),
-        Draw::Line(right, tip, 6.0),
-        inner,
-    ];
-    draws[i]
+    if i < 6 {
+        return Choice::Of(COIL[i]);
+    }
+    if i == 6 {
+        return Choice::Of(inner_circle(on));
+    }
+    Choice::Nothing
 }
 
-// How many shapes a kind has.
-pub fn count(kind: u8) -> usize
-    ensures { λ r. ⌜ r ≡ countOf kind ⌝ }
-{
-    if kind == 0 { 3 } else { 7 }
-}
-
-// Shape i of a kind: 0 Power, 1 Contact, else Coil.
-pub fn shape(kind: u8, i: usize, a: bool, b: bool) -> Draw
-    requires { ⌜ i < countOf kind ⌝ }
-    ensures { λ r. ⌜ r ≡ getD (drawsOf kind a b) i r ⌝ }
+// Shape i of a kind, 0 Power, 1 Contact, 2 Coil; past the last, and of another kind, no shape. a and b are a contact's A and B, and a is a coil's state.
+pub fn shape(kind: u8, i: usize, a: bool, b: bool) -> Choice
+    ensures { λ r. ⌜ chosen r ≡ asked i (drawsOf kind a b) ⌝ }
 {
     match kind {
         0 => power(i),
         1 => contact(i, a, b),
-        _ => coil(i, a),
+        2 => coil(i, a),
+        _ => Choice::Nothing,
     }
 }

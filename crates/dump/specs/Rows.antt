@@ -2,13 +2,12 @@
 use Prim.Native.Nat.{ℕ, _+_, _≤_}
 use mathlib.Core.Bool.{Bool, cond}
 use mathlib.Core.List.{List, [], _∷_, _++_}
+use lib.Dec.{eqb}
 use lib.ListN.{length}
 use Rattle.lists.specs.Lists.{gather}
 use Rattle.edge.specs.Coordinates.{coordOf}
 use Rattle.orientation.specs.declared.RotMirror.{RotMirror}
-use Rattle.orientation.specs.declared.Number.{Number}
-use Rattle.orientation.specs.declared.Number.the-variants.{At, Unknown}
-use Rattle.orientation.specs.Orientations.{numberOf}
+use Rattle.orientation.specs.Orientations.{Numbered, numberOf}
 use Rattle.label.specs.Labels.{labelPart}
 use Rattle.sheet.specs.declared.Wire.{Wire}
 use Rattle.sheet.specs.declared.Joint.{Joint}
@@ -33,9 +32,8 @@ abbrev pub letterOf : Bool → ℕ
 letterOf vertical = cond vertical 118 104
 
 -- the number of an orientation, "0 to 7"; 8 where it has none, as in no lawful drawing
-abbrev pub numberIn : Number → ℕ
-numberIn (At n) = n
-numberIn Unknown = 8
+abbrev pub numberIn : Numbered → ℕ
+numberIn r = cond (eqb (r .reply) 0) (r .number) 8
 
 abbrev pub orientNumber : RotMirror → ℕ
 orientNumber o = numberIn (numberOf o)

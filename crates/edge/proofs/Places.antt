@@ -11,27 +11,24 @@ use mir.Syntax.{w16, w32}
 use mir.Val.{SFits, Fits, toZ, ofZ}
 use mir.Facts.{toZ-ofZ, toZ-pos}
 use borrow.Author.Tests.{ltb-true, ltb-false, le-leb, lt-leb, leb-true, leb-false}
-use Rattle.edge.specs.Coordinates.{toℕ, coordOf, biased, placeOf, insideOf, placedReply}
-use Rattle.edge.specs.declared.Placed.the-variants.{Inside, Outside}
+use Rattle.edge.specs.Coordinates.{toℕ, coordOf, biased, ranged, found, placeOf, insideOf}
+use Rattle.edge.specs.declared.Found.{Found}
 use Rattle.lists.proofs.Tests.{reads-as, and-reads, leb-reads, same-test}
 use Rattle.edge.proofs.Whole.{sub-pos, sub-neg, biased-sub, mag-sub}
 
-pub outside : (k : ℕ) (z : ℤ) → k < natAbs z → Outside ≡ placeOf k z
-unfolding placeOf
-outside k z h = sym (λ i. cond (lt-leb (natAbs z) k h i) (Inside (biased z)) Outside)
+-- what is found outside the range
+abbrev pub nowhere : Found
+nowhere = record { inside = false; at = 0 }
 
-pub inside : (k : ℕ) (z : ℤ) → natAbs z ≤ k → Inside (biased z) ≡ placeOf k z
+placed-as : (k : ℕ) (z : ℤ) {b : Bool} → ranged k z ≡ b → placeOf k z ≡ found b (biased z)
 unfolding placeOf
-inside k z h = sym (λ i. cond (le-leb (natAbs z) k h i) (Inside (biased z)) Outside)
+placed-as k z e = λ i. found (e i) (biased z)
 
--- the reply of each case: 0 in the range, else 1
-pub placed-reply : (k : ℕ) (z : ℤ) → placedReply (placeOf k z) ≡ cond (leb (natAbs z) k) 0 1
-unfolding placeOf
-placed-reply k z = go (leb (natAbs z) k)
-  where
-    go : (b : Bool) → placedReply (cond b (Inside (biased z)) Outside) ≡ cond b 0 1
-    go true = refl
-    go false = refl
+pub outside : (k : ℕ) (z : ℤ) → k < natAbs z → nowhere ≡ placeOf k z
+outside k z h = sym (placed-as k z (lt-leb (natAbs z) k h))
+
+pub inside : (k : ℕ) (z : ℤ) → natAbs z ≤ k → found true (biased z) ≡ placeOf k z
+inside k z h = sym (placed-as k z (le-leb (natAbs z) k h))
 
 pub too-low : (k : ℕ) (z : ℤ) → ltZ z (negsuc k) ≡ true → suc k < natAbs z
 too-low k (pos n) e = absurd (subst T (sym e) tt)
@@ -59,10 +56,10 @@ module _ (z : ℤ) (f : SFits w32 z) where
   is : toZ w32 (ofZ w32 z) ≡ z
   is = toZ-ofZ {w = w32} {z = z} f
 
-  pub low : ltZ (toZ w32 (ofZ w32 z)) (negsuc 5999) ≡ true → Outside ≡ placeOf 6000 z
+  pub low : ltZ (toZ w32 (ofZ w32 z)) (negsuc 5999) ≡ true → nowhere ≡ placeOf 6000 z
   low e = outside 6000 z (too-low 5999 z (sym (λ i. ltZ (is i) (negsuc 5999)) ∙ e))
 
-  pub high : ltZ (pos 6000) (toZ w32 (ofZ w32 z)) ≡ true → Outside ≡ placeOf 6000 z
+  pub high : ltZ (pos 6000) (toZ w32 (ofZ w32 z)) ≡ true → nowhere ≡ placeOf 6000 z
   high e = outside 6000 z (too-high 6000 z (sym (λ i. ltZ (pos 6000) (is i)) ∙ e))
 
   module _ (e : ltZ (toZ w32 (ofZ w32 z)) (negsuc 5999) ≡ false) (g : ltZ (pos 6000) (toZ w32 (ofZ w32 z)) ≡ false) where
@@ -84,8 +81,8 @@ module _ (z : ℤ) (f : SFits w32 z) where
     pub cast-fits : T (nonNeg (toZ w32 (ofZ w32 (toZ w32 (ofZ w32 z) +ℤ pos 6000)))) × Fits w16 (natAbs (toZ w32 (ofZ w32 (toZ w32 (ofZ w32 z) +ℤ pos 6000))))
     cast-fits = let h = small in subst (λ (y : ℤ). T (nonNeg y) × Fits w16 (natAbs y)) (sym read) (tt, record { fits = omega arith })
 
-    pub placed : Inside (natAbs (toZ w32 (ofZ w32 (toZ w32 (ofZ w32 z) +ℤ pos 6000)))) ≡ placeOf 6000 z
-    placed = ap (λ (y : ℤ). Inside (natAbs y)) read ∙ inside 6000 z inner
+    pub placed : found true (natAbs (toZ w32 (ofZ w32 (toZ w32 (ofZ w32 z) +ℤ pos 6000)))) ≡ placeOf 6000 z
+    placed = ap (λ (y : ℤ). found true (natAbs y)) read ∙ inside 6000 z inner
 
 -- ---- a component's range is the narrower one
 narrow : (m n : ℕ) → (m ≤ 5800) ↔ ((200 ≤ n) × (n ≤ 11800)) → leb m 5800 ≡ insideOf n
@@ -98,27 +95,26 @@ narrow-test (negsuc n) h =
     let e : toℕ (subℕ 6000 (suc n)) ≡ 6000 - suc n = ap toℕ (sub-pos 6000 (suc n) h) in
     narrow (suc n) (toℕ (subℕ 6000 (suc n))) (λ l. (omega arith, omega arith), λ t. omega arith)
 
--- what `place` says of z is what its size says
-placed-wide : (z : ℤ) (n : ℕ) → placeOf 6000 z ≡ Inside n → (natAbs z ≤ 6000) × (n ≡ biased z)
-unfolding placeOf
-placed-wide z n e = go (leb (natAbs z) 6000) refl e
-  where
-    go : (b : Bool) → leb (natAbs z) 6000 ≡ b → cond b (Inside (biased z)) Outside ≡ Inside n → (natAbs z ≤ 6000) × (n ≡ biased z)
-    go true t e = (leb-true (natAbs z) 6000 t, cc)
-    go false t e = absurd (let y : _≡_ {A = ℕ} 0 1 = cc in omega arith)
+chosen : (b : Bool) (n : ℕ) → cond b (found true n) nowhere ≡ found b n
+chosen true n = refl
+chosen false n = refl
 
-pub narrowed : (z : ℤ) (n : ℕ) (b : Bool) → placeOf 6000 z ≡ Inside n → insideOf n ≡ b → cond b (Inside n) Outside ≡ placeOf 5800 z
-unfolding placeOf
-narrowed z n b e t =
-    let w = placed-wide z n e in
-    sym (λ i. cond ((narrow-test z (w .0) ∙ ap insideOf (sym (w .1)) ∙ t) i) (Inside (sym (w .1) i)) Outside)
-
-pub still-outside : (z : ℤ) → placeOf 6000 z ≡ Outside → Outside ≡ placeOf 5800 z
-still-outside z e = go (leb (natAbs z) 6000) refl
+-- what `place` finds, if it is a position, is what the narrower range asks
+pub narrowed : (z : ℤ) (p : Found) {b : Bool} → p ≡ placeOf 6000 z → insideOf (p .at) ≡ b → cond b p nowhere ≡ placeOf 5800 z
+narrowed z p {b} e t = go (leb (natAbs z) 6000) refl
   where
-    go : (b : Bool) → leb (natAbs z) 6000 ≡ b → Outside ≡ placeOf 5800 z
-    go true t = absurd (let w : Inside (biased z) ≡ placeOf 6000 z = inside 6000 z (leb-true (natAbs z) 6000 t) in let y : _≡_ {A = ℕ} 0 1 = cc in omega arith)
-    go false t = let h = leb-false (natAbs z) 6000 t in outside 5800 z (omega arith)
+    far : (b : Bool) → cond b nowhere nowhere ≡ nowhere
+    far true = refl
+    far false = refl
+
+    go : (c : Bool) → leb (natAbs z) 6000 ≡ c → cond b p nowhere ≡ placeOf 5800 z
+    go true l =
+        let h = leb-true (natAbs z) 6000 l in
+        let q : p ≡ found true (biased z) = e ∙ sym (inside 6000 z h) in
+        ap (λ (f : Found). cond b f nowhere) q ∙ chosen b (biased z) ∙ sym (placed-as 5800 z (narrow-test z h ∙ sym (ap (λ (f : Found). insideOf (f .at)) q) ∙ t))
+    go false l =
+        let h = leb-false (natAbs z) 6000 l in
+        ap (λ (f : Found). cond b f nowhere) (e ∙ sym (outside 6000 z h)) ∙ far b ∙ outside 5800 z (omega arith)
 
 -- a coordinate that is handed on comes out of its bits as it was
 pub handed : (z : ℤ) → SFits w32 z → placeOf 6000 z ≡ placeOf 6000 (toZ w32 (ofZ w32 z))

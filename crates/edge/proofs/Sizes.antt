@@ -11,7 +11,7 @@ use mir.Val.{SFits, Fits, toZ, ofZ}
 use mir.Facts.{toZ-ofZ}
 use borrow.Author.Tests.{ltb-true, ltb-false, le-leb, lt-leb}
 use Rattle.edge.specs.Coordinates.{sizeOf, sizedReply}
-use Rattle.edge.specs.declared.Sized.the-variants.{Is, Wrong}
+use Rattle.edge.specs.declared.PointerSize.the-variants.{Is, Wrong}
 
 -- the reply of each case: 0 from 0 to 1,000, else 3
 pub sized-reply : (z : ℤ) → sizedReply (sizeOf z) ≡ cond (nonNeg z && leb (natAbs z) 1000) 0 3

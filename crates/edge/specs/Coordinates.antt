@@ -3,10 +3,9 @@ use Prim.Native.Nat.{ℕ}
 use mathlib.Core.Bool.{Bool, _&&_, cond}
 use lib.Dec.{leb}
 use lib.IntN.{ℤ, pos, negsuc, natAbs, subℕ, _+ℤ_}
-use Rattle.edge.specs.declared.Placed.{Placed}
-use Rattle.edge.specs.declared.Placed.the-variants.{Inside, Outside}
-use Rattle.edge.specs.declared.Sized.{Sized}
-use Rattle.edge.specs.declared.Sized.the-variants.{Is, Wrong}
+use Rattle.edge.specs.declared.Found.{Found}
+use Rattle.edge.specs.declared.PointerSize.{PointerSize}
+use Rattle.edge.specs.declared.PointerSize.the-variants.{Is, Wrong}
 
 -- a whole number that is not negative; a negative one is taken as 0
 abbrev pub toℕ : ℤ → ℕ
@@ -22,27 +21,28 @@ unfoldable pub biased : ℤ → ℕ
 biased z = toℕ (z +ℤ pos 6000)
 
 -- "Wire ends and pointer: each coordinate −6,000 to 6,000. Component position: −5,800 to 5,800."
--- A coordinate from -limit to limit, as a row's number.
-unfoldable pub placeOf : ℕ → ℤ → Placed
-placeOf limit z = cond (leb (natAbs z) limit) (Inside (biased z)) Outside
+-- a coordinate from -limit to limit
+abbrev pub ranged : ℕ → ℤ → Bool
+ranged limit z = leb (natAbs z) limit
+
+-- n, or none and 0
+abbrev pub found : Bool → ℕ → Found
+found b n = record { inside = b; at = cond b n 0 }
+
+-- a coordinate from -limit to limit, as a row's number
+unfoldable pub placeOf : ℕ → ℤ → Found
+placeOf limit z = found (ranged limit z) (biased z)
 
 -- a component's position as rows hold it: -5,800 to 5,800
 abbrev pub insideOf : ℕ → Bool
 insideOf n = leb 200 n && leb n 11800
 
 -- "Pointer size: 0 to 1,000."
-unfoldable pub sizeOf : ℤ → Sized
+unfoldable pub sizeOf : ℤ → PointerSize
 sizeOf (pos n) = cond (leb n 1000) (Is n) Wrong
 sizeOf (negsuc n) = Wrong
 
--- ---- the numbered reply of each case
-
--- "1: a coordinate outside its range"
-abbrev pub placedReply : Placed → ℕ
-placedReply (Inside n) = 0
-placedReply Outside = 1
-
--- "3: size outside its range"
-abbrev pub sizedReply : Sized → ℕ
+-- the numbered reply of each case: "3: size outside its range"
+abbrev pub sizedReply : PointerSize → ℕ
 sizedReply (Is n) = 0
 sizedReply Wrong = 3

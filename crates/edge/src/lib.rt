@@ -2,29 +2,37 @@
 ghost use mathlib.Core.Path.{_≡_};
 ghost use Rattle.edge.specs.Coordinates.{coordOf, placeOf, insideOf, sizeOf};
 
-// A coordinate as rows hold it, or none.
-pub enum Placed {
-    Inside(u16),
-    Outside,
+// A coordinate as rows hold it, or none and 0.
+pub struct Found {
+    pub inside: bool,
+    pub at: u16,
 }
 
+const NOWHERE: Found = Found {
+    inside: false,
+    at: 0,
+};
+
 // A pointer size, or none.
-pub enum Sized {
+pub enum PointerSize {
     Is(u16),
     Wrong,
 }
 
 // A coordinate of a wire end or the pointer, -6,000 to 6,000, as rows hold it.
-pub fn place(x: i32) -> Placed
+pub fn place(x: i32) -> Found
     ensures { λ r. ⌜ r ≡ placeOf 6000 x ⌝ }
 {
     if x < -6000 {
-        return Placed::Outside;
+        return NOWHERE;
     }
     if 6000 < x {
-        return Placed::Outside;
+        return NOWHERE;
     }
-    Placed::Inside((x + 6000) as u16)
+    Found {
+        inside: true,
+        at: (x + 6000) as u16,
+    }
 }
 
 // Whether a row's number is a component's position.
@@ -35,19 +43,14 @@ pub fn is_position(n: u16) -> bool
 }
 
 // A coordinate of a component, -5,800 to 5,800, as rows hold it.
-pub fn place_component(x: i32) -> Placed
+pub fn place_component(x: i32) -> Found
     ensures { λ r. ⌜ r ≡ placeOf 5800 x ⌝ }
 {
-    match place(x) {
-        Placed::Inside(n) => {
-            if is_position(n) {
-                Placed::Inside(n)
-            } else {
-                Placed::Outside
-            }
-        }
-        Placed::Outside => Placed::Outside,
+    let p = place(x);
+    if is_position(p.at) {
+        return p;
     }
+    NOWHERE
 }
 
 // The coordinate of a row's number.
@@ -58,14 +61,14 @@ pub fn coordinate(n: u16) -> i32
 }
 
 // A pointer size, 0 to 1,000.
-pub fn size(s: i32) -> Sized
+pub fn size(s: i32) -> PointerSize
     ensures { λ r. ⌜ r ≡ sizeOf s ⌝ }
 {
     if s < 0 {
-        return Sized::Wrong;
+        return PointerSize::Wrong;
     }
     if 1000 < s {
-        return Sized::Wrong;
+        return PointerSize::Wrong;
     }
-    Sized::Is(s as u16)
+    PointerSize::Is(s as u16)
 }

@@ -11,8 +11,9 @@ use lib.Ieee.{Float, nan, inf, fin, binary32, up, down, round, ofInt}
 use lib.Ieee.Exact.{round-exact}
 use Rattle.lists.proofs.Tests.{both-l, both-r}
 use Rattle.edge.proofs.Whole.{one-times, minus-times, row-plus-left, row-minus-left, row-plus-right, row-minus-right, size-neg}
-use Rattle.float.specs.Drawn.{drawnOf, Row, plus-x, minus-x, plus-y, minus-y}
-use Rattle.float.specs.Close.{unit, signed, scale, whole-units, tame, exact, sumOf, near, negative-zero, Close}
+use Rattle.orientation.specs.Rows.{Row, plus-x, minus-x, plus-y, minus-y}
+use Rattle.float.specs.Drawn.{drawnOf}
+use Rattle.float.specs.Close.{unit, signed, scale, whole-units, tame, exact, sumOf, near, negative-zero, Close, ClosePosition}
 use Rattle.float.proofs.Signed.{signed-size}
 use Rattle.float.proofs.Rounded.{rounded, rounded-near, rounded-whole}
 use Rattle.float.proofs.Sums.{Has, Held, add-has}
@@ -114,11 +115,15 @@ module _ {a b : ℤ} (x y : Float) (p : ℤ) (r : Row a b) (hx : T (tame x)) (hy
   drawn-close =
       let n = rounded-near (sumOf a b x y p) (sum-small (a *ℤ exact x +ℤ b *ℤ exact y) p (P .both .small) hp) in
       record {
+        x-tame = hx;
+        y-tame = hy;
         at-most = rw drawn-rounded (n .0);
         whole = λ m k e f. drawn-rounded ∙ ap rounded ((λ i. a *ℤ e i +ℤ b *ℤ f i +ℤ units p) ∙ (λ i. units-row m k r i +ℤ units p) ∙ units-add (a *ℤ m +ℤ b *ℤ k) p) ∙ rounded-whole (a *ℤ m +ℤ b *ℤ k +ℤ p);
         no-negative-zero = rw drawn-rounded (n .1);
       }
 
--- a coordinate that is only a position, of a wire or a joint: the whole number itself
-pub whole-close : (z : ℤ) → natAbs z ≤ 6000 → T (near (ofInt binary32 z) (z *ℤ pos unit)) × T (not (negative-zero (ofInt binary32 z)))
-whole-close z h = subst (λ (f : Float). T (near f (units z)) × T (not (negative-zero f))) (rounded-whole z) (rounded-near (units z) (omega (arith, size-units z)))
+-- a coordinate that is a position alone: the whole number itself
+pub whole-close : (z : ℤ) → natAbs z ≤ 6000 → ClosePosition z (ofInt binary32 z)
+whole-close z h =
+    let n = subst (λ (f : Float). T (near f (units z)) × T (not (negative-zero f))) (rounded-whole z) (rounded-near (units z) (omega (arith, size-units z))) in
+    record { at-most = n .0; whole = refl; no-negative-zero = n .1 }

@@ -6,7 +6,7 @@ use native.Mathlib.Omega.{arith}
 use mathlib.Core.Bool.{true}
 use lib.IntN.{ℤ, pos, negsuc, negℤ, natAbs, subℕ, _+ℤ_, _*ℤ_}
 use Rattle.edge.proofs.Whole.{sub-pos, sub-neg, by-order, same-diff, add-sub, neg-sub, pos-sub, neg-sub-suc, row-plus-left, row-minus-left, row-plus-right, row-minus-right, size-sub}
-use Rattle.float.specs.Drawn.{Row, plus-x, minus-x, plus-y, minus-y}
+use Rattle.orientation.specs.Rows.{Row, plus-x, minus-x, plus-y, minus-y}
 use Rattle.float.specs.Close.{unit}
 use Rattle.float.proofs.Signed.{plus-sub, minus-sub, signed-size}
 

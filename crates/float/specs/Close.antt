@@ -31,7 +31,7 @@ tame nan = false
 tame (inf s) = false
 tame (fin s m e) = ltb m (2 ^ 24) && whole-units e && leb (m * 2 ^ scale e) (256 * unit)
 
--- the value of such an x, in units
+-- the value of such an x, in units: of a tame x only, which `Close` therefore asks
 unfoldable pub exact : Float → ℤ
 exact nan = pos 0
 exact (inf s) = pos 0
@@ -56,6 +56,14 @@ negative-zero (fin s m e) = s && eqb m 0
 -- "Each drawn coordinate is at most 1/4,096 from the exact sum, whole inputs give the whole number, and none is a negative zero":
 -- what is promised of a coordinate r that is drawn for the numbers x and y of a symbol, by the row (a, b) at the position p
 pub record Close (a b : ℤ) (x y : Float) (p : ℤ) (r : Float) : Type 0 where
+  pub x-tame : T (tame x)
+  pub y-tame : T (tame y)
   pub at-most : T (near r (sumOf a b x y p))
   pub whole : (m n : ℤ) → exact x ≡ m *ℤ pos unit → exact y ≡ n *ℤ pos unit → r ≡ ofInt binary32 (a *ℤ m +ℤ b *ℤ n +ℤ p)
+  pub no-negative-zero : T (not (negative-zero r))
+
+-- the same of a coordinate r that is a position p alone, as in the mark of a wire or a joint: the exact sum is p
+pub record ClosePosition (p : ℤ) (r : Float) : Type 0 where
+  pub at-most : T (near r (p *ℤ pos unit))
+  pub whole : r ≡ ofInt binary32 p
   pub no-negative-zero : T (not (negative-zero r))

@@ -7,7 +7,7 @@ use native.Mathlib.Omega.{arith}
 use mathlib.Core.Bool.{Bool, true, false, _&&_, cond}
 use mathlib.Core.List.{List, [], _∷_, List·Memᴰ·head as ∈-head, List·Memᴰ·tail as ∈-tail}
 use mathlib.Core.Logic.{⊎-elim}
-use lib.Dec.{T}
+use lib.Dec.{T, eqb}
 use lib.IntN.{ℤ, pos, negsuc, negℤ, _-ℤ_}
 use mir.Syntax.{w8}
 use mir.Val.{SFits, toZ, ofZ}
@@ -19,9 +19,9 @@ use borrow.Author.Tests.{lt-ltb}
 use Rattle.lists.specs.Lists.{_∈_, all}
 use Rattle.lists.proofs.Tests.{both-l, both-r, test, holds}
 use Rattle.lists.proofs.Lists.{all-reads}
-use Rattle.orientation.specs.Orientations.{eqZ, turn, eight, zeros, sameOf, seek, numberOf, isAt, known, eighth, numberedOf, done, refused, turnedBy}
+use Rattle.orientation.specs.Orientations.{eqZ, turn, eight, zeros, sameOf, seek, numberIs, noNumber, numberOf, known, eighth, numberedOf, done, refused, turnedBy}
+use Rattle.orientation.specs.Rows.{Row, plus-x, minus-x, plus-y, minus-y}
 use Rattle.orientation.specs.declared.RotMirror.{RotMirror}
-use Rattle.orientation.specs.declared.Number.the-variants.{At, Unknown}
 use Rattle.orientation.proofs.Bits.{eqZ→eq}
 
 -- ---- P holds of each of a list
@@ -44,11 +44,11 @@ same-eq o p t =
     let t2 = both-r y (z && w) t1 in
     λ i. turn (eqZ→eq (o .0) (p .0) (both-l (eqZ (o .0) (p .0)) (y && (z && w)) t) i) (eqZ→eq (o .1) (p .1) (both-l y (z && w) t1) i) (eqZ→eq (o .2) (p .2) (both-l z w t2) i) (eqZ→eq (o .3) (p .3) (both-r z w t2) i)
 
-sought : (o : RotMirror) (n : ℕ) (ps : List RotMirror) → T (isAt (seek o n ps)) → o ∈ ps
+sought : (o : RotMirror) (n : ℕ) (ps : List RotMirror) → T (eqb (seek o n ps .reply) 0) → o ∈ ps
 sought o n [] t = absurd t
 sought o n (p ∷ ps) t = go (sameOf o p) (same-eq o p) (sought o (suc n) ps) t
   where
-    go : (b : Bool) → (T b → o ≡ p) → (T (isAt (seek o (suc n) ps)) → o ∈ ps) → T (isAt (cond b (At n) (seek o (suc n) ps))) → o ∈ p ∷ ps
+    go : (b : Bool) → (T b → o ≡ p) → (T (eqb (seek o (suc n) ps .reply) 0) → o ∈ ps) → T (eqb (cond b (numberIs n) (seek o (suc n) ps) .reply) 0) → o ∈ p ∷ ps
     go true h k t = ∈-head (h tt)
     go false h k t = ∈-tail (k t)
 
@@ -74,7 +74,7 @@ in-upTo zero h = absurd (let z : ⊥ = omega arith in z)
 in-upTo {k} (suc n) h = ⊎-elim (λ (e : k ≡ n). ∈-head e) (λ (l : k < n). ∈-tail (in-upTo n l)) (eq-or-lt-of-le (le-of-suc-le-suc h))
 
 -- ---- the search for a number
-step : (o : RotMirror) (n : ℕ) → n < 8 → seek o n (drop n eight) ≡ cond (sameOf o (eighth n)) (At n) (seek o (n + 1) (drop (n + 1) eight))
+step : (o : RotMirror) (n : ℕ) → n < 8 → seek o n (drop n eight) ≡ cond (sameOf o (eighth n)) (numberIs n) (seek o (n + 1) (drop (n + 1) eight))
 step o n h = rw (drop-cons eight n zeros h, add-one)
 
 pub turn-of : (n : ℕ) → n < 8 → numberedOf n .turn ≡ eighth n
@@ -82,16 +82,16 @@ unfolding numberedOf
 turn-of n h = λ i. cond (lt-ltb n 8 h i) (done (eighth n)) refused .turn
 
 module _ (o p : RotMirror) (n : ℕ) (r : Bool) (h : n < 8) (inv : numberOf o ≡ seek o n (drop n eight)) (e : r ≡ sameOf o p) (q : p ≡ eighth n) where
-  case : (b : Bool) → r ≡ b → numberOf o ≡ cond b (At n) (seek o (n + 1) (drop (n + 1) eight))
-  case b t = inv ∙ step o n h ∙ (λ i. cond ((sym (e ∙ ap (sameOf o) q) ∙ t) i) (At n) (seek o (n + 1) (drop (n + 1) eight)))
+  case : (b : Bool) → r ≡ b → numberOf o ≡ cond b (numberIs n) (seek o (n + 1) (drop (n + 1) eight))
+  case b t = inv ∙ step o n h ∙ (λ i. cond ((sym (e ∙ ap (sameOf o) q) ∙ t) i) (numberIs n) (seek o (n + 1) (drop (n + 1) eight)))
 
-  pub found : r ≡ true → At n ≡ numberOf o
+  pub found : r ≡ true → numberIs n ≡ numberOf o
   found t = sym (case true t)
 
   pub passed : r ≡ false → numberOf o ≡ seek o (n + 1) (drop (n + 1) eight)
   passed t = case false t
 
-pub none : (o : RotMirror) (n : ℕ) → n ≤ 8 → 8 ≤ n → numberOf o ≡ seek o n (drop n eight) → Unknown ≡ numberOf o
+pub none : (o : RotMirror) (n : ℕ) → n ≤ 8 → 8 ≤ n → numberOf o ≡ seek o n (drop n eight) → noNumber ≡ numberOf o
 none o n h k inv = let e : n ≡ 8 = omega arith in sym (inv ∙ ap (λ (m : ℕ). seek o m (drop m eight)) e)
 
 -- ---- the numbers of the eight, as the machine reads, writes and negates them
@@ -117,6 +117,13 @@ small-known o t =
     of-eight Smalls
     ((one, nil, nil, one), ((nil, minus, one, nil), ((minus, nil, nil, minus), ((nil, one, minus, nil), ((minus, nil, nil, one), ((nil, minus, minus, nil), ((one, nil, nil, minus), ((nil, one, one, nil), tt))))))))
     o t
+
+-- ---- the rows of the eight
+abbrev pub Rows : RotMirror → Type 0
+Rows o = Row (o .0) (o .1) × Row (o .2) (o .3)
+
+pub known-rows : (o : RotMirror) → T (known o) → Rows o
+known-rows = of-eight Rows ((plus-x, plus-y), ((minus-y, plus-x), ((minus-x, minus-y), ((plus-y, minus-x), ((minus-x, plus-y), ((minus-y, minus-x), ((plus-x, minus-y), ((plus-y, plus-x), tt))))))))
 
 -- where the code has found that o is known, or not
 module _ (o : RotMirror) {r : Bool} (e : r ≡ known o) where

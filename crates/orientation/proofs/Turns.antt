@@ -1,15 +1,15 @@
 -- The laws of the eight orientations: the numbers and the eight are one to one; each turn takes the eight to the eight, by a table; four right
 -- turns, a left and a right turn, and two mirrors change nothing.
-use mathlib.Core.Path.{_≡_, refl, ap, _∙_}
-use Prim.Native.Nat.{ℕ, _<_}
+use mathlib.Core.Path.{_≡_, refl, sym, ap, _∙_}
+use Prim.Native.Nat.{ℕ, zero, suc, _<_}
 use mathlib.Core.Bool.{true, cond}
-use mathlib.Core.List.{List}
+use mathlib.Core.List.{List, [], _∷_}
 use lib.Dec.{T, ltb, ltb→lt}
 use lib.IntN.{negℤ-negℤ}
 use lib.ListN.{getD}
 use Rattle.lists.specs.Lists.{all}
 use Rattle.lists.proofs.Tests.{agree}
-use Rattle.orientation.specs.Orientations.{turn, sameOf, numberOf, numberReply, isAt, known, eighth, done, refused, turnedBy, rightOf, leftOf, mirrorOf, rights, lefts, mirrors}
+use Rattle.orientation.specs.Orientations.{turn, sameOf, numberIs, told, numberOf, known, eighth, done, refused, turnedBy, rightOf, leftOf, mirrorOf}
 use Rattle.orientation.specs.declared.RotMirror.{RotMirror}
 use Rattle.orientation.specs.declared.Number.{Number}
 use Rattle.orientation.specs.declared.Number.the-variants.{At, Unknown}
@@ -33,29 +33,32 @@ two-mirrors o = λ i. turn (negℤ-negℤ (o .0) i) (negℤ-negℤ (o .1) i) (o 
 below-8 : (P : ℕ → Type 0) → Each P (upTo 8) → (n : ℕ) → n < 8 → P n
 below-8 P h n l = each P (in-upTo 8 l) h
 
-pub number-eighth : (n : ℕ) → n < 8 → numberOf (eighth n) ≡ At n
+pub number-eighth : (n : ℕ) → n < 8 → numberOf (eighth n) ≡ numberIs n
 unfolding numberOf sameOf
-number-eighth = below-8 (λ (n : ℕ). numberOf (eighth n) ≡ At n) (refl, (refl, (refl, (refl, (refl, (refl, (refl, (refl, tt))))))))
+number-eighth = below-8 (λ (n : ℕ). numberOf (eighth n) ≡ numberIs n) (refl, (refl, (refl, (refl, (refl, (refl, (refl, (refl, tt))))))))
 
--- the reply tells whether there is a number
-pub number-reply : (n : Number) → numberReply n ≡ cond (isAt n) 0 4
-number-reply (At n) = refl
-number-reply Unknown = refl
+-- what is told of a number tells which it is: so the contract of `number_of` determines what it returns
+numberIn : ℕ → ℕ → Number
+numberIn zero n = At n
+numberIn (suc r) n = Unknown
 
--- the number that `At` holds
-abbrev pub told : Number → ℕ
-told (At n) = n
-told Unknown = 8
+told-back : (m : Number) → numberIn (told m .reply) (told m .number) ≡ m
+unfolding numberIn
+told-back (At n) = refl
+told-back Unknown = refl
+
+pub one-number : (m n : Number) → told m ≡ told n → m ≡ n
+one-number m n e = sym (told-back m) ∙ (λ i. numberIn (e i .reply) (e i .number)) ∙ told-back n
 
 pub record Back (o : RotMirror) : Type 0 where
-  pub number : told (numberOf o) < 8
-  pub same : eighth (told (numberOf o)) ≡ o
+  pub number : numberOf o .number < 8
+  pub same : eighth (numberOf o .number) ≡ o
 
 pub eighth-number : (o : RotMirror) → T (known o) → Back o
 unfolding numberOf sameOf all
 eighth-number o t = record {
-  number = ltb→lt (told (numberOf o)) 8 (test-eight (λ (o : RotMirror). ltb (told (numberOf o)) 8) tt o t);
-  same = of-eight (λ (o : RotMirror). eighth (told (numberOf o)) ≡ o) (refl, (refl, (refl, (refl, (refl, (refl, (refl, (refl, tt)))))))) o t;
+  number = ltb→lt (numberOf o .number) 8 (test-eight (λ (o : RotMirror). ltb (numberOf o .number) 8) tt o t);
+  same = of-eight (λ (o : RotMirror). eighth (numberOf o .number) ≡ o) (refl, (refl, (refl, (refl, (refl, (refl, (refl, (refl, tt)))))))) o t;
 }
 
 -- ---- each turn takes the eight to the eight; left-right, right-left and two-mirrors undo it, so it is one to one
@@ -71,9 +74,18 @@ pub mirror-known : (o : RotMirror) → T (known o) → T (known (mirrorOf o))
 unfolding numberOf sameOf all
 mirror-known = test-eight (λ (o : RotMirror). known (mirrorOf o)) tt
 
--- ---- the turns as tables of numbers
+-- ---- the turns, as they act on the numbers 0 to 7
+abbrev pub rights : List ℕ
+rights = 1 ∷ 2 ∷ 3 ∷ 0 ∷ 5 ∷ 6 ∷ 7 ∷ 4 ∷ []
+
+abbrev pub lefts : List ℕ
+lefts = 3 ∷ 0 ∷ 1 ∷ 2 ∷ 7 ∷ 4 ∷ 5 ∷ 6 ∷ []
+
+abbrev pub mirrors : List ℕ
+mirrors = 4 ∷ 7 ∷ 6 ∷ 5 ∷ 0 ∷ 3 ∷ 2 ∷ 1 ∷ []
+
 abbrev pub Acts : (RotMirror → RotMirror) → List ℕ → ℕ → Type 0
-Acts f t n = numberOf (f (eighth n)) ≡ At (getD t n 8)
+Acts f t n = numberOf (f (eighth n)) ≡ numberIs (getD t n 8)
 
 pub right-acts : (n : ℕ) → n < 8 → Acts rightOf rights n
 unfolding numberOf sameOf

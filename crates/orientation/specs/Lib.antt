@@ -1,1 +1,2 @@
 pub mod Orientations
+pub mod Rows

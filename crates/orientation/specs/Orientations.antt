@@ -1,6 +1,6 @@
 -- The eight orientations, their numbers, and the three turns.
 use Prim.Native.Nat.{ℕ, suc}
-use mathlib.Core.Bool.{Bool, true, false, _&&_, cond}
+use mathlib.Core.Bool.{Bool, false, _&&_, cond}
 use mathlib.Core.List.{List, [], _∷_}
 use lib.Dec.{eqb, ltb}
 use lib.IntN.{ℤ, pos, negsuc, negℤ}
@@ -36,27 +36,34 @@ eqZ (negsuc m) (negsuc n) = eqb m n
 unfoldable pub sameOf : RotMirror → RotMirror → Bool
 sameOf o p = eqZ (o .0) (p .0) && (eqZ (o .1) (p .1) && (eqZ (o .2) (p .2) && eqZ (o .3) (p .3)))
 
+-- a call for a number as document 01 answers it: 0 and the number, or "4: .. not one of the eight orientations" and zeros
+pub record Numbered : Type 0 where
+  pub reply : ℕ
+  pub number : ℕ
+
+abbrev pub numberIs : ℕ → Numbered
+numberIs n = record { reply = 0; number = n }
+
+abbrev pub noNumber : Numbered
+noNumber = record { reply = 4; number = 0 }
+
+-- "For an answer that is an enum, a definition provides this paper's number and values for each of the enum's cases."
+abbrev pub told : Number → Numbered
+told (At n) = numberIs n
+told Unknown = noNumber
+
 -- the place of o in a list, counted from n
-abbrev pub seek : RotMirror → ℕ → List RotMirror → Number
-seek o n [] = Unknown
-seek o n (p ∷ ps) = cond (sameOf o p) (At n) (seek o (suc n) ps)
+abbrev pub seek : RotMirror → ℕ → List RotMirror → Numbered
+seek o n [] = noNumber
+seek o n (p ∷ ps) = cond (sameOf o p) (numberIs n) (seek o (suc n) ps)
 
 -- the number of o
-unfoldable pub numberOf : RotMirror → Number
+unfoldable pub numberOf : RotMirror → Numbered
 numberOf o = seek o 0 eight
-
--- the numbered reply of each case: "4: .. not one of the eight orientations"
-abbrev pub numberReply : Number → ℕ
-numberReply (At n) = 0
-numberReply Unknown = 4
-
-abbrev pub isAt : Number → Bool
-isAt (At n) = true
-isAt Unknown = false
 
 -- "Orientation: four signed numbers that are one of the eight"
 abbrev pub known : RotMirror → Bool
-known o = isAt (numberOf o)
+known o = eqb (numberOf o .reply) 0
 
 abbrev pub zeros : RotMirror
 zeros = turn (pos 0) (pos 0) (pos 0) (pos 0)
@@ -90,13 +97,3 @@ leftOf o = turn (o .2) (o .3) (negℤ (o .0)) (negℤ (o .1))
 -- "Mirror: (−a, −b, c, d)."
 abbrev pub mirrorOf : RotMirror → RotMirror
 mirrorOf o = turn (negℤ (o .0)) (negℤ (o .1)) (o .2) (o .3)
-
--- ---- the turns, as they act on the numbers 0 to 7
-abbrev pub rights : List ℕ
-rights = 1 ∷ 2 ∷ 3 ∷ 0 ∷ 5 ∷ 6 ∷ 7 ∷ 4 ∷ []
-
-abbrev pub lefts : List ℕ
-lefts = 3 ∷ 0 ∷ 1 ∷ 2 ∷ 7 ∷ 4 ∷ 5 ∷ 6 ∷ []
-
-abbrev pub mirrors : List ℕ
-mirrors = 4 ∷ 7 ∷ 6 ∷ 5 ∷ 0 ∷ 3 ∷ 2 ∷ 1 ∷ []

@@ -1,11 +1,11 @@
 // The eight orientations and the three turns.
 ghost use mathlib.Core.Path.{_≡_};
-ghost use Rattle.orientation.specs.Orientations.{sameOf, numberOf, known, numberedOf, turnedBy, rightOf, leftOf, mirrorOf};
+ghost use Rattle.orientation.specs.Orientations.{sameOf, told, numberOf, known, numberedOf, turnedBy, rightOf, leftOf, mirrorOf};
 
 // An orientation (a, b, c, d): (x, y) goes to (ax + by, cx + dy).
 pub struct RotMirror(pub i8, pub i8, pub i8, pub i8);
 
-// The number of an orientation.
+// The number of an orientation, or none.
 pub enum Number {
     At(u8),
     Unknown,
@@ -55,7 +55,7 @@ pub fn numbered(n: u8) -> Turned
 
 // The number of o, 0 to 7: the first whose orientation is o.
 pub fn number_of(o: RotMirror) -> Number
-    ensures { λ r. ⌜ r ≡ numberOf o ⌝ }
+    ensures { λ r. ⌜ told r ≡ numberOf o ⌝ }
 {
     let mut n: u8 = 0;
     while n < 8 {

@@ -2,7 +2,6 @@
 use component::BoxAnswer;
 use component::PadsAnswer;
 use component::Position;
-use edge::Placed;
 use libc::STDOUT_FILENO;
 use orientation::Number;
 use orientation::RotMirror;
@@ -20,16 +19,17 @@ fn put_number(n: u16) {
 
 // A space and a coordinate; one outside the range of wire ends as *.
 fn put_coordinate(x: i32) {
-    match edge::place(x) {
-        Placed::Inside(n) => {
-            if n < 6000 {
-                put(b" -");
-                io::print_decimal(STDOUT_FILENO, (6000 - n) as u64);
-            } else {
-                put_number(n - 6000);
-            }
-        }
-        Placed::Outside => put(b" *"),
+    let p = edge::place(x);
+    if !p.inside {
+        put(b" *");
+        return;
+    }
+    let n = p.at;
+    if n < 6000 {
+        put(b" -");
+        io::print_decimal(STDOUT_FILENO, (6000 - n) as u64);
+    } else {
+        put_number(n - 6000);
     }
 }
 

@@ -3,13 +3,13 @@ use Prim.Native.Nat.{ℕ, suc}
 use native.Mathlib.Omega.{arith}
 use mathlib.Core.Bool.{Bool, true, false, _&&_, cond, not}
 use mathlib.Core.Path.{_≡_, refl, sym, subst}
-use lib.Dec.{eqb, leb}
+use lib.Dec.{eqb}
 use lib.IntN.{ℤ}
 use lib.Signed.{leZ}
 use Rattle.lists.specs.Lists.{any}
 use Rattle.edge.specs.Coordinates.{toℕ, sizedReply, sizeOf}
 use Rattle.orientation.specs.declared.RotMirror.{RotMirror}
-use Rattle.orientation.specs.Orientations.{known}
+use Rattle.symbol.specs.Symbols.{knownSymbol}
 use Rattle.label.specs.declared.Label.{Label}
 use Rattle.label.specs.Labels.{heldLabel}
 use Rattle.symbol.specs.declared.Point.{Point}
@@ -62,7 +62,7 @@ untouched d t a = unless (not (any (touches (a .part)) (listsOf d .parts))) 6 d 
 
 pub part-decides : (d : Drawing) (k : ℕ) (o : RotMirror) (x y : ℤ) (l : Label) (t : Tally) {a : AskedPart} → a ≡ askedPart k o x y l → Decides d t (a .reply) (untouched d t a) (addComponent d k o x y l t)
 unfolding addComponent askedPart
-part-decides d k o x y l t q = subst (λ (a : AskedPart). Decides d t (a .reply) (untouched d t a) (addComponent d k o x y l t)) (sym q) (go (leb k 2 && known o) (ranged 5800 x && ranged 5800 y) (eqb (heldLabel l .reply) 0))
+part-decides d k o x y l t q = subst (λ (a : AskedPart). Decides d t (a .reply) (untouched d t a) (addComponent d k o x y l t)) (sym q) (go (knownSymbol k o) (ranged 5800 x && ranged 5800 y) (eqb (heldLabel l .reply) 0))
   where
     P : AskedPart
     P = record { reply = 0; part = componentAt k o x y l }

@@ -2,16 +2,16 @@
 -- "Order: 10, 9, 4, 1, 2, 3, 5, 6, 7, 8; the first that applies."
 use Prim.Native.Nat.{ℕ}
 use mathlib.Core.Bool.{Bool, _&&_, cond, not}
-use lib.Dec.{eqb, leb}
+use lib.Dec.{eqb}
 use lib.IntN.{ℤ}
 use lib.Signed.{leZ}
 use Rattle.lists.specs.Lists.{any}
 use Rattle.edge.specs.Coordinates.{toℕ, sizedReply, sizeOf}
 use Rattle.orientation.specs.declared.RotMirror.{RotMirror}
-use Rattle.orientation.specs.Orientations.{known}
 use Rattle.label.specs.declared.Label.{Label}
 use Rattle.label.specs.Labels.{heldLabel}
 use Rattle.symbol.specs.declared.Point.{Point}
+use Rattle.symbol.specs.Symbols.{knownSymbol}
 use Rattle.sheet.specs.declared.Drawing.{Drawing}
 use Rattle.sheet.specs.declared.Tally.{Tally}
 use Rattle.sheet.specs.Parts.{touches}
@@ -46,7 +46,7 @@ addWire d vertical line start end t =
 unfoldable pub addComponent : Drawing → ℕ → RotMirror → ℤ → ℤ → Label → Tally → Edited
 addComponent d kind o x y label t =
     let c = componentAt kind o x y label in
-    unless (leb kind 2 && known o) 4 d t
+    unless (knownSymbol kind o) 4 d t
     (unless (ranged 5800 x && ranged 5800 y) 1 d t
     (unless (eqb (heldLabel label .reply) 0) 5 d t
     (unless (not (any (touches c) (listsOf d .parts))) 6 d t

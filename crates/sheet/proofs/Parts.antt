@@ -7,8 +7,8 @@ use lib.ListN.{length, length-map}
 use Rattle.lists.proofs.Tests.{Reads, holds}
 use Rattle.orientation.specs.declared.RotMirror.{RotMirror}
 use Rattle.orientation.specs.Orientations.{known, mirrorOf}
-use Rattle.symbol.specs.Symbols.{boundsAt, movedOf, padsAt, within}
-use Rattle.symbol.proofs.Boxes.{own-box, common-touches, mirror-box}
+use Rattle.symbol.specs.Symbols.{boundsAt, movedOf, padsAt}
+use Rattle.symbol.proofs.Boxes.{within, own-box, common-touches, mirror-box}
 use Rattle.sheet.specs.declared.Component.{Component}
 use Rattle.sheet.specs.Boxes.{Shares}
 use Rattle.sheet.specs.Parts.{position, box, pads, touches, PartFits, reoriented, mirrored}

@@ -1,7 +1,8 @@
--- What the square about the pointer meets, edges counted.
-use Prim.Native.Nat.{ℕ, _+_, _-_, _≤_}
+-- What the square about the pointer meets, edges counted. Two boxes share a point: `Shares`.
+use Prim.Native.Nat.{ℕ, _+_, _-_}
 use Rattle.symbol.specs.declared.Point.{Point}
 use Rattle.symbol.specs.declared.Bounds.{Bounds}
+pub use Rattle.symbol.specs.Boxes.{Shares}
 use Rattle.sheet.specs.declared.Wire.{Wire}
 use Rattle.sheet.specs.Lines.{low, high, tip}
 
@@ -15,10 +16,3 @@ square p size = record {
 -- a wire's line, as a box
 abbrev pub line : Wire → Bounds
 line w = record { low = tip low w; high = tip high w }
-
--- the two boxes share a point
-pub record Shares (a b : Bounds) : Type 0 where
-  pub x : a .low .x ≤ b .high .x
-  pub x′ : b .low .x ≤ a .high .x
-  pub y : a .low .y ≤ b .high .y
-  pub y′ : b .low .y ≤ a .high .y

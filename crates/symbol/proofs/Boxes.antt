@@ -4,7 +4,7 @@ use Prim.Native.Nat.{ℕ, zero, suc, _+_, _-_, _≤_, min, max}
 use native.Mathlib.Omega.{arith}
 use mathlib.Core.Bool.{Bool, _&&_, _||_, cond}
 use mathlib.Core.Logic.{⊎-elim}
-use lib.Dec.{T, leb→le}
+use lib.Dec.{T, leb, leb→le}
 use lib.IntN.{ℤ, pos, negsuc, _+ℤ_}
 use lib.Signed.{leZ}
 use Rattle.lists.specs.Lists.{all}
@@ -15,23 +15,21 @@ use Rattle.orientation.proofs.Eight.{of-eight, test-eight}
 use Rattle.orientation.proofs.Turns.{is-known, mirror-known}
 use Rattle.edge.specs.Coordinates.{coordOf, biased, insideOf}
 use Rattle.edge.proofs.Whole.{added, pos-sub, neg-sub-suc}
-use Rattle.symbol.specs.Symbols.{applied, lowAt, highAt, boxOf, boundsAt, touchesOf, within, boundsFor, refusalOf, aabbOf}
+use Rattle.symbol.specs.Symbols.{applied, lowAt, highAt, boxOf, boundsAt, touchesOf, boundsFor, refusalOf, aabbOf}
+use Rattle.symbol.specs.Boxes.{Shares}
 use Rattle.symbol.specs.declared.Point.{Point}
 use Rattle.symbol.specs.declared.Bounds.{Bounds}
 
 -- ---- the tests, read
-pub record Shares (a b : Bounds) : Type 0 where
-  pub x-left : a .low .x ≤ b .high .x
-  pub x-right : b .low .x ≤ a .high .x
-  pub y-top : a .low .y ≤ b .high .y
-  pub y-bottom : b .low .y ≤ a .high .y
-
 pub shares-reads : (a b : Bounds) → Reads (Shares a b) (touchesOf a b)
 shares-reads a b =
-    reads-as (λ t. record { x-left = t .0; x-right = t .1 .0; y-top = t .1 .1 .0; y-bottom = t .1 .1 .1 }, λ h. (h .x-left, (h .x-right, (h .y-top, h .y-bottom))))
+    reads-as (λ t. record { x = t .0; x′ = t .1 .0; y = t .1 .1 .0; y′ = t .1 .1 .1 }, λ h. (h .x, (h .x′, (h .y, h .y′))))
     (and-reads (leb-reads (a .low .x) (b .high .x)) (and-reads (leb-reads (b .low .x) (a .high .x)) (and-reads (leb-reads (a .low .y) (b .high .y)) (leb-reads (b .low .y) (a .high .y)))))
 
--- p is in b
+-- p lies in b, edges counted
+abbrev pub within : Point → Bounds → Bool
+within p b = leb (b .low .x) (p .x) && (leb (p .x) (b .high .x) && (leb (b .low .y) (p .y) && leb (p .y) (b .high .y)))
+
 pub record In (p : Point) (b : Bounds) : Type 0 where
   pub x-low : b .low .x ≤ p .x
   pub x-high : p .x ≤ b .high .x
@@ -44,11 +42,11 @@ within-reads p b =
     (and-reads (leb-reads (b .low .x) (p .x)) (and-reads (leb-reads (p .x) (b .high .x)) (and-reads (leb-reads (b .low .y) (p .y)) (leb-reads (p .y) (b .high .y)))))
 
 -- ---- touching
-turned-round : {a b : Bounds} → Shares a b → Shares b a
-turned-round h = record { x-left = h .x-right; x-right = h .x-left; y-top = h .y-bottom; y-bottom = h .y-top }
+pub shares-mirror : {a b : Bounds} → Shares a b → Shares b a
+shares-mirror h = record { x = h .x′; x′ = h .x; y = h .y′; y′ = h .y }
 
 pub symmetric : (a b : Bounds) → touchesOf a b ≡ touchesOf b a
-symmetric a b = same-test (shares-reads a b) (reads-as (turned-round, turned-round) (shares-reads b a))
+symmetric a b = same-test (shares-reads a b) (reads-as (shares-mirror, shares-mirror) (shares-reads b a))
 
 -- a box whose low corner is not above its high one
 pub record Box (b : Bounds) : Type 0 where
@@ -68,14 +66,14 @@ touches-reads a b f g = reads-as (into, out) (shares-reads a b)
         (p, record { x-low = omega arith; x-high = omega arith; y-low = omega arith; y-high = omega arith }, record { x-low = omega arith; x-high = omega arith; y-low = omega arith; y-high = omega arith })
 
     out : (p : Point) × In p a × In p b → Shares a b
-    out t = let h = t .1 in let k = t .2 in record { x-left = omega arith; x-right = omega arith; y-top = omega arith; y-bottom = omega arith }
+    out t = let h = t .1 in let k = t .2 in record { x = omega arith; x′ = omega arith; y = omega arith; y′ = omega arith }
 
 -- so two boxes with a common point touch
 pub common-touches : (a b : Bounds) (p : Point) → T (within p a) → T (within p b) → T (touchesOf a b)
 common-touches a b p s t =
     let h = holds (within-reads p a) s in
     let k = holds (within-reads p b) t in
-    passes (shares-reads a b) (record { x-left = omega arith; x-right = omega arith; y-top = omega arith; y-bottom = omega arith })
+    passes (shares-reads a b) (record { x = omega arith; x′ = omega arith; y = omega arith; y′ = omega arith })
 
 -- ---- a coordinate of a component's point, which lies z from the position's
 abbrev put : ℕ → ℤ → ℕ

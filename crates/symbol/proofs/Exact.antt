@@ -12,21 +12,21 @@ use Rattle.lists.specs.Lists.{_∈_}
 use Rattle.lists.proofs.Tests.{both-l, both-r}
 use Rattle.lists.proofs.Lists.{in-cons, in-one}
 use Rattle.orientation.specs.Orientations.{known}
+use Rattle.orientation.specs.Rows.{Row, plus-x, minus-x, plus-y, minus-y}
+use Rattle.orientation.proofs.Eight.{known-rows}
 use Rattle.orientation.specs.declared.RotMirror.{RotMirror}
 use Rattle.edge.specs.Coordinates.{coordOf, biased}
 use Rattle.edge.proofs.Whole.{row-plus-left, row-minus-left, row-plus-right, row-minus-right, size-neg, size-added, added, pos-sub, neg-sub-suc}
 use Rattle.edge.proofs.Places.{back}
 use Rattle.symbol.specs.Symbols.{Offset, applied, movedOf, padsAt, padPoints, lowAt, highAt, boundsAt, Sound}
-use Rattle.symbol.specs.Steps.{Row, right, left, down, up}
 use Rattle.symbol.specs.declared.Point.{Point}
-use Rattle.symbol.proofs.Rows.{known-rows}
 
 -- a row gives no greater number than those it is given
 size-row : (u v : ℤ) (k : ℕ) → natAbs u ≤ k → natAbs v ≤ k → {a b : ℤ} → Row a b → natAbs (a *ℤ u +ℤ b *ℤ v) ≤ k
-size-row u v k f g right = rw (row-plus-left u v) f
-size-row u v k f g left = rw (row-minus-left u v, size-neg u) f
-size-row u v k f g down = rw (row-plus-right u v) g
-size-row u v k f g up = rw (row-minus-right u v, size-neg v) g
+size-row u v k f g plus-x = rw (row-plus-left u v) f
+size-row u v k f g minus-x = rw (row-minus-left u v, size-neg u) f
+size-row u v k f g plus-y = rw (row-plus-right u v) g
+size-row u v k f g minus-y = rw (row-minus-right u v, size-neg v) g
 
 -- ---- the points of a symbol are at most 150 from the position in each coordinate
 abbrev pub near : Offset → Bool

@@ -11,7 +11,7 @@ use Rattle.orientation.specs.Orientations.{known}
 use Rattle.orientation.specs.declared.RotMirror.{RotMirror}
 use Rattle.orientation.proofs.Turns.{is-known}
 use Rattle.edge.specs.Coordinates.{insideOf}
-use Rattle.symbol.specs.Symbols.{unused, block, boxOf, refusalOf, padBlock, boundsAt, padsFor, boundsFor, padsOf, aabbOf, Placeable}
+use Rattle.symbol.specs.Symbols.{knownSymbol, unused, block, boxOf, refusalOf, padBlock, boundsAt, padsFor, boundsFor, padsOf, aabbOf, Placeable}
 use Rattle.symbol.specs.declared.PadBlock.{PadBlock}
 use Rattle.symbol.specs.declared.PadsReply.{PadsReply}
 use Rattle.symbol.specs.declared.Bounds.{Bounds}
@@ -23,12 +23,12 @@ above-zero f g h (suc k) n = h k
 
 module _ (kind : ℕ) (o : RotMirror) (x y : ℕ) where
   -- the reply, by what the two tests give
-  pub refuse : (k p : Bool) → (leb kind 2 && known o) ≡ k → (insideOf x && insideOf y) ≡ p → cond k (cond p 0 1) 4 ≡ refusalOf kind o x y
+  pub refuse : (k p : Bool) → knownSymbol kind o ≡ k → (insideOf x && insideOf y) ≡ p → cond k (cond p 0 1) 4 ≡ refusalOf kind o x y
   unfolding refusalOf
   refuse k p e f = sym (λ i. cond (e i) (cond (f i) 0 1) 4)
 
   -- the tests, read
-  pub tests-placeable : T (leb kind 2 && known o) → T (insideOf x && insideOf y) → Placeable kind o x y
+  pub tests-placeable : T (knownSymbol kind o) → T (insideOf x && insideOf y) → Placeable kind o x y
   tests-placeable k t =
       let tx = both-l (insideOf x) (insideOf y) t in
       let ty = both-r (insideOf x) (insideOf y) t in
@@ -46,7 +46,7 @@ module _ (kind : ℕ) (o : RotMirror) (x y : ℕ) where
   -- what reply 0 tells
   pub placeable : refusalOf kind o x y ≡ 0 → Placeable kind o x y
   unfolding refusalOf
-  placeable = go (leb kind 2 && known o) (insideOf x && insideOf y) tests-placeable
+  placeable = go (knownSymbol kind o) (insideOf x && insideOf y) tests-placeable
     where
       go : (p r : Bool) → (T p → T r → Placeable kind o x y) → _≡_ {A = ℕ} (cond p (cond r 0 1) 4) 0 → Placeable kind o x y
       go true true m e = m tt tt

@@ -1,8 +1,9 @@
 -- What the functions below the calls ask and return. The code's tables hold each number of a symbol as 200 more, so that none is negative.
 use Prim.Native.Nat.{ℕ, zero, suc, _≤_}
 use mathlib.Core.List.{List, [], _∷_}
-use lib.IntN.{ℤ, pos, negsuc, subℕ}
+use lib.IntN.{ℤ, subℕ}
 use lib.ListN.{getD}
+use Rattle.orientation.specs.Rows.{Row}
 use Rattle.orientation.specs.declared.RotMirror.{RotMirror}
 use Rattle.symbol.specs.Symbols.{Offset, off, unused, Sound}
 use Rattle.symbol.specs.declared.Point.{Point}
@@ -27,13 +28,6 @@ pub record Mapping (points : List Point) (count : ℕ) (o : RotMirror) (x y : �
   pub few : count ≤ 3
   pub sound : Sound o x y
   pub near : (k : ℕ) → Near (getD points k unused)
-
--- a row of an orientation: one of the two numbers is 0 and the other is 1 or -1
-pub data Row : ℤ → ℤ → Type 0 where
-  right : Row (pos 1) (pos 0)
-  left : Row (negsuc 0) (pos 0)
-  down : Row (pos 0) (pos 1)
-  up : Row (pos 0) (negsuc 0)
 
 -- what a coordinate of a symbol's point asks: a row of an orientation, a stored point, and a position
 pub record Along (a b : ℤ) (dx dy p : ℕ) : Type 0 where

@@ -42,7 +42,7 @@ highAt zero = off (pos 50) (pos 0)
 highAt (suc zero) = off (pos 50) (pos 100)
 highAt (suc (suc n)) = off (pos 50) (pos 150)
 
--- "Only contacts turn or mirror in place"
+-- "Only contacts turn or mirror in place", of a kind; `sheet`'s isContact says it of a component of a drawing
 abbrev pub canTurn : ℕ → Bool
 canTurn kind = eqb kind 1
 
@@ -58,7 +58,8 @@ movedOf o x y q = record { x = biased (coordOf x +ℤ applied o q .dx); y = bias
 abbrev pub unused : Point
 unused = record { x = 0; y = 0 }
 
--- "The pads of a symbol come as a block of three points with a count, unused points (0,0)."
+-- "The pads of a symbol come as a block of three points with a count, unused points (0,0)." Here an unused point is a row of zeros, whose coordinates
+-- would be (−6,000,−6,000); the block by coordinates, with (0,0), is `component_pads`'s.
 abbrev pub block : List Point → PadBlock
 block ps = record { points = take 3 (ps ++ (unused ∷ unused ∷ unused ∷ [])); count = length ps }
 
@@ -80,9 +81,13 @@ boxOf p q = record {
 abbrev pub boundsAt : ℕ → RotMirror → ℕ → ℕ → Bounds
 boundsAt kind o x y = boxOf (movedOf o x y (lowAt kind)) (movedOf o x y (highAt kind))
 
+-- "4: unknown kind, or not one of the eight orientations": the kind is known, and the orientation one of the eight
+abbrev pub knownSymbol : ℕ → RotMirror → Bool
+knownSymbol kind o = leb kind 2 && known o
+
 -- ---- "A box, pads or a turn asked of a bad kind, orientation or position get 4 or 1, in that order, and zeros for every number."
 unfoldable pub refusalOf : ℕ → RotMirror → ℕ → ℕ → ℕ
-refusalOf kind o x y = cond (leb kind 2 && known o) (cond (insideOf x && insideOf y) 0 1) 4
+refusalOf kind o x y = cond (knownSymbol kind o) (cond (insideOf x && insideOf y) 0 1) 4
 
 abbrev pub padsFor : ℕ → PadBlock → PadsReply
 padsFor zero p = record { reply = 0; pads = p }
@@ -101,10 +106,6 @@ aabbOf kind o x y = boundsFor (refusalOf kind o x y) (boundsAt kind o x y)
 -- ---- "no two component boxes share a point, edges counted"
 abbrev pub touchesOf : Bounds → Bounds → Bool
 touchesOf a b = leb (a .low .x) (b .high .x) && (leb (b .low .x) (a .high .x) && (leb (a .low .y) (b .high .y) && leb (b .low .y) (a .high .y)))
-
--- p lies in b, edges counted
-abbrev pub within : Point → Bounds → Bool
-within p b = leb (b .low .x) (p .x) && (leb (p .x) (b .high .x) && (leb (b .low .y) (p .y) && leb (p .y) (b .high .y)))
 
 -- ---- what is known of a component in a lawful drawing
 

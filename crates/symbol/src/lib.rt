@@ -3,7 +3,7 @@ ghost use mathlib.Core.Path.{_≡_};
 ghost use Prim.Native.Nat.{min, max};
 ghost use lib.IntN.{subℕ, _+ℤ_, _*ℤ_};
 ghost use Rattle.edge.specs.Coordinates.{coordOf, biased};
-ghost use Rattle.symbol.specs.Symbols.{Sound, Placeable, canTurn, movedOf, padBlock, boxOf, boundsAt, refusalOf, padsOf, aabbOf, touchesOf};
+ghost use Rattle.symbol.specs.Symbols.{Sound, Placeable, knownSymbol, canTurn, movedOf, padBlock, boxOf, boundsAt, refusalOf, padsOf, aabbOf, touchesOf};
 ghost use Rattle.symbol.specs.Steps.{offsetOf, mapFirst, Near, Along, Mapping};
 use orientation::RotMirror;
 
@@ -109,11 +109,18 @@ fn moved(o: RotMirror, q: Point, x: u16, y: u16) -> Point
     Point { x: rx, y: ry }
 }
 
+// Whether the kind is known and the orientation is one of the eight: else a call is refused with 4.
+pub fn is_known(kind: u8, o: RotMirror) -> bool
+    ensures { λ r. ⌜ r ≡ knownSymbol kind o ⌝ }
+{
+    (kind <= 2) & orientation::is_known(o)
+}
+
 // 4 for an unknown kind or orientation, 1 for a position outside, else 0.
 fn refusal(kind: u8, o: RotMirror, x: u16, y: u16) -> u8
     ensures { λ r. ⌜ r ≡ refusalOf kind o x y ⌝ }
 {
-    if (kind <= 2) & orientation::is_known(o) {
+    if is_known(kind, o) {
         if edge::is_position(x) & edge::is_position(y) {
             0
         } else {
@@ -172,13 +179,15 @@ pub fn pads(kind: u8, o: RotMirror, x: u16, y: u16) -> PadsReply
     }
 }
 
-fn lesser(a: u16, b: u16) -> u16
+// The lesser of two numbers.
+pub fn lesser(a: u16, b: u16) -> u16
     ensures { λ r. ⌜ r ≡ min a b ⌝ }
 {
     if a < b { a } else { b }
 }
 
-fn greater(a: u16, b: u16) -> u16
+// The greater of two numbers.
+pub fn greater(a: u16, b: u16) -> u16
     ensures { λ r. ⌜ r ≡ max a b ⌝ }
 {
     if a < b { b } else { a }

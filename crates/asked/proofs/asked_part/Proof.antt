@@ -18,21 +18,15 @@ returns c = c .no-part .ensures ∙ unknown-part _ _ _ _ _ (c .before .before .i
 place-component-requires : tie.Need-place-component-requires
 place-component-requires c κs = search needs
 
-row-requires : tie.Need-row-requires
-row-requires c κs = search needs
-
 place-component-requires-2 : tie.Need-place-component-requires-2
 place-component-requires-2 c κs = search needs
-
-row-requires-2 : tie.Need-row-requires-2
-row-requires-2 c κs = search needs
 
 no-part-requires-2 : tie.Need-no-part-requires-2
 no-part-requires-2 c κs = search needs
 
 returns-2 : tie.Need-returns-2
-returns-2 c = let k = c .before .before .before .before in let s = k .before .before .before .before .before .before in
-    c .no-part2 .ensures ∙ far-part _ _ _ _ (s .args .label) (k .before .before .before .before .before .is-known .ensures) (k .before .before .before .before .if1 .left) (in-range _ (s .fits .x) 5800 (k .before .before .before .place-component .ensures) (k .before .before .row .ensures)) (in-range _ (s .fits .y) 5800 (k .before .place-component2 .ensures) (k .row2 .ensures)) (c .before .if2 .taken)
+returns-2 c = let k = c .before .before .before .before in let s = k .before .before .before .before in
+    c .no-part2 .ensures ∙ far-part _ _ _ _ (s .args .label) (k .before .before .before .is-known .ensures) (k .before .before .if1 .left) (in-range _ (s .fits .x) 5800 (k .before .place-component .ensures)) (in-range _ (s .fits .y) 5800 (k .place-component2 .ensures)) (c .before .if2 .taken)
 
 held-label-requires : tie.Need-held-label-requires
 held-label-requires c κs = search needs
@@ -41,12 +35,12 @@ no-part-requires-3 : tie.Need-no-part-requires-3
 no-part-requires-3 c κs = search needs
 
 returns-3 : tie.Need-returns-3
-returns-3 c = let k = c .before .before .before .before .before .before .before in let s = k .before .before .before .before .before .before in
-    c .no-part3 .ensures ∙ unlabelled-part _ _ _ _ (s .args .label) (k .before .before .before .before .before .is-known .ensures) (k .before .before .before .before .if1 .left) (in-range _ (s .fits .x) 5800 (k .before .before .before .place-component .ensures) (k .before .before .row .ensures)) (in-range _ (s .fits .y) 5800 (k .before .place-component2 .ensures) (k .row2 .ensures)) (c .before .before .before .before .if2 .left) (c .before .before .before .held-label .ensures) (c .before .if3 .taken)
+returns-3 c = let k = c .before .before .before .before .before .before .before in let s = k .before .before .before .before in
+    c .no-part3 .ensures ∙ unlabelled-part _ _ _ _ (s .args .label) (k .before .before .before .is-known .ensures) (k .before .before .if1 .left) (in-range _ (s .fits .x) 5800 (k .before .place-component .ensures)) (in-range _ (s .fits .y) 5800 (k .place-component2 .ensures)) (c .before .before .before .before .if2 .left) (c .before .before .before .held-label .ensures) (c .before .if3 .taken)
 
 returns-4 : tie.Need-returns-4
-returns-4 c = let k = c .before .before .before .before .before .before .before in let s = k .before .before .before .before .before .before in
-    asked-part _ _ _ _ (s .args .label) (k .before .before .before .before .before .is-known .ensures) (k .before .before .before .before .if1 .left) (in-range _ (s .fits .x) 5800 (k .before .before .before .place-component .ensures) (k .before .before .row .ensures)) (in-range _ (s .fits .y) 5800 (k .before .place-component2 .ensures) (k .row2 .ensures)) (c .before .before .before .before .if2 .left) (c .before .before .before .held-label .ensures) (c .before .if3 .left)
+returns-4 c = let k = c .before .before .before .before .before .before .before in let s = k .before .before .before .before in
+    asked-part _ _ _ _ (s .args .label) (k .before .before .before .is-known .ensures) (k .before .before .if1 .left) (in-range _ (s .fits .x) 5800 (k .before .place-component .ensures)) (in-range _ (s .fits .y) 5800 (k .place-component2 .ensures)) (c .before .before .before .before .if2 .left) (c .before .before .before .held-label .ensures) (c .before .if3 .left)
 
 pub asked-part-spec : {M : Type 1} → statement M
 asked-part-spec =
@@ -56,9 +50,7 @@ asked-part-spec =
     no-part-requires
     returns
     place-component-requires
-    row-requires
     place-component-requires-2
-    row-requires-2
     no-part-requires-2
     returns-2
     held-label-requires

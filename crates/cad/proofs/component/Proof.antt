@@ -36,35 +36,38 @@ returns-3 c =
     let Y = tested 5800 (s .fits .y) (c .before .before .before .before .is-position2 .ensures) in
     mislabelled (s .args .kind) (s .args .o) (s .args .label) (s .args .i) (s .args .a) (s .args .b) (c .before .before .before .before .before .before .before .is-known .ensures) (not-false _ (c .before .before .before .before .before .before .if1 .left)) X Y (not-false _ (c .before .before .before .if2 .left)) (c .before .before .held-label .ensures) (c .if3 .taken)
 
-count-requires : tie.Need-count-requires
-count-requires c κs = search needs
-
-returns-4 : tie.Need-returns-4
-returns-4 c =
-    let s = c .before .before .before .before .before .before .before .before .before .before in
-    let X = tested 5800 (s .fits .x) (c .before .before .before .before .before .before .before .is-position .ensures) in
-    let Y = tested 5800 (s .fits .y) (c .before .before .before .before .before .before .is-position2 .ensures) in
-    past (s .args .kind) (s .args .o) (s .args .label) (s .args .i) (s .args .a) (s .args .b) (c .before .before .before .before .before .before .before .before .before .is-known .ensures) (not-false _ (c .before .before .before .before .before .before .before .before .if1 .left)) X Y (not-false _ (c .before .before .before .before .before .if2 .left)) (c .before .before .before .before .held-label .ensures) (c .before .before .if3 .left) (c .before .count .ensures) (c .if4 .taken)
-
 shape-requires : tie.Need-shape-requires
 shape-requires c κs = search needs
 
+enum-known-d : tie.Need-enum-known-d
+enum-known-d c = search needs
+
 convert-requires : tie.Need-convert-requires
 convert-requires c κs =
-    let s = c .before .before .before .before .before .before .before .before .before .before .before in
-    let X = tested 5800 (s .fits .x) (c .before .before .before .before .before .before .before .before .is-position .ensures) in
-    let Y = tested 5800 (s .fits .y) (c .before .before .before .before .before .before .before .is-position2 .ensures) in
-    small-two X Y (lit≤ tt) (not-false _ (c .before .before .before .before .before .before .if2 .left))
+    let s = c .before .before .before .before .before .before .before .before .before .before .before .before in
+    let X = tested 5800 (s .fits .x) (c .before .before .before .before .before .before .before .before .before .is-position .ensures) in
+    let Y = tested 5800 (s .fits .y) (c .before .before .before .before .before .before .before .before .is-position2 .ensures) in
+    small-two X Y (lit≤ tt) (not-false _ (c .before .before .before .before .before .before .before .if2 .left))
 
 transform-requires : tie.Need-transform-requires
 transform-requires c κs = search needs
 
+enum-told : tie.Need-enum-told
+enum-told c = search needs
+
+returns-4 : tie.Need-returns-4
+returns-4 c =
+    let s = c .before .before .before .before .before .before .before .before .before .before .before .before .before .before in
+    let X = tested 5800 (s .fits .x) (c .before .before .before .before .before .before .before .before .before .before .before .is-position .ensures) in
+    let Y = tested 5800 (s .fits .y) (c .before .before .before .before .before .before .before .before .before .before .is-position2 .ensures) in
+    shown (s .args .kind) (s .args .o) (s .args .label) (s .args .i) (s .args .a) (s .args .b) (c .before .before .before .before .before .before .before .before .before .before .before .before .before .is-known .ensures) (not-false _ (c .before .before .before .before .before .before .before .before .before .before .before .before .if1 .left)) X Y (not-false _ (c .before .before .before .before .before .before .before .before .before .if2 .left)) (c .before .before .before .before .before .before .before .before .held-label .ensures) (c .before .before .before .before .before .before .if3 .left) (c .before .before .before .before .before .shape .result) (c .before .before .before .before .before .shape .ensures) (c .before .before .before .d .given .1) (converted X Y (c .before .convert .ensures)) (c .transform .ensures)
+
 returns-5 : tie.Need-returns-5
 returns-5 c =
-    let s = c .before .before .before .before .before .before .before .before .before .before .before .before .before in
-    let X = tested 5800 (s .fits .x) (c .before .before .before .before .before .before .before .before .before .before .is-position .ensures) in
-    let Y = tested 5800 (s .fits .y) (c .before .before .before .before .before .before .before .before .before .is-position2 .ensures) in
-    shown (s .args .kind) (s .args .o) (s .args .label) (s .args .i) (s .args .a) (s .args .b) (c .before .before .before .before .before .before .before .before .before .before .before .before .is-known .ensures) (not-false _ (c .before .before .before .before .before .before .before .before .before .before .before .if1 .left)) X Y (not-false _ (c .before .before .before .before .before .before .before .before .if2 .left)) (c .before .before .before .before .before .before .before .held-label .ensures) (c .before .before .before .before .before .if3 .left) (c .before .before .before .before .count .ensures) (c .before .before .before .if4 .left) (c .before .before .shape .ensures) (converted X Y (c .before .convert .ensures)) (c .transform .ensures)
+    let s = c .before .before .before .before .before .before .before .before .before .before .before in
+    let X = tested 5800 (s .fits .x) (c .before .before .before .before .before .before .before .before .is-position .ensures) in
+    let Y = tested 5800 (s .fits .y) (c .before .before .before .before .before .before .before .is-position2 .ensures) in
+    past (s .args .kind) (s .args .o) (s .args .label) (s .args .i) (s .args .a) (s .args .b) (c .before .before .before .before .before .before .before .before .before .before .is-known .ensures) (not-false _ (c .before .before .before .before .before .before .before .before .before .if1 .left)) X Y (not-false _ (c .before .before .before .before .before .before .if2 .left)) (c .before .before .before .before .before .held-label .ensures) (c .before .before .before .if3 .left) (c .before .before .shape .result) (c .before .before .shape .ensures) (c .enum-told .given .1)
 
 pub component-spec : {M : Type 1} → statement M
 component-spec =
@@ -77,9 +80,10 @@ component-spec =
     returns-2
     held-label-requires
     returns-3
-    count-requires
-    returns-4
     shape-requires
+    enum-known-d
     convert-requires
     transform-requires
+    enum-told
+    returns-4
     returns-5)

@@ -7,18 +7,8 @@ use Rattle.cad.proofs.is_position.Tie as tie
 place-component-requires : tie.Need-place-component-requires
 place-component-requires c κs = search needs
 
-enum-told : tie.Need-enum-told
-enum-told c = search needs
-
-enum-told-2 : tie.Need-enum-told-2
-enum-told-2 c = search needs
-
 returns : tie.Need-returns
-returns c = place-test 5800 (c .before .before .before .fits .z) (c .before .before .place-component .ensures) (c .enum-told .given .1)
-
-returns-2 : tie.Need-returns-2
-returns-2 c = place-test 5800 (c .before .before .before .fits .z) (c .before .before .place-component .ensures) (c .enum-told2 .given .1)
+returns c = place-test 5800 (c .before .fits .z) (c .place-component .ensures)
 
 pub is-position-spec : {M : Type 1} → statement M
-is-position-spec =
-    tie.close (tie.spec place-component-requires enum-told enum-told-2 returns returns-2)
+is-position-spec = tie.close (tie.spec place-component-requires returns)
