@@ -37,24 +37,18 @@ fn print(drawing: Drawing, line: &[u8], out: &mut [u8], used: usize) -> Stepped
 }
 
 // Takes lines until the chunk is used up or less than 8,192 bytes are left, which a line may need.
-pub fn take_lines(
-    drawing: Drawing,
-    chunk: &[u8],
-    held: &mut [u8],
-    begun: usize,
-    out: &mut [u8],
-) -> Taken
-    requires { ⌜ Lawful drawing ⌝ ∗ ⌜ 81 ≤ length (now held) ⌝ ∗ ⌜ begun ≤ 81 ⌝ ∗ ⌜ 8192 ≤ length (now out) ⌝ }
-    ensures { λ r. ⌜ Takes drawing (now (chunk .entry)) (now (held .entry)) begun r (now (held .exit)) (now (out .exit)) ⌝ }
+pub fn take_lines(d: Drawing, chunk: &[u8], held: &mut [u8], begun: usize, out: &mut [u8]) -> Taken
+    requires { ⌜ Lawful d ⌝ ∗ ⌜ 81 ≤ length (now held) ⌝ ∗ ⌜ begun ≤ 81 ⌝ ∗ ⌜ 8192 ≤ length (now out) ⌝ }
+    ensures { λ r. ⌜ Takes d (now (chunk .entry)) (now (held .entry)) begun r (now (held .exit)) (now (out .exit)) ⌝ }
 {
-    let mut d = drawing;
+    let mut drawing = d;
     let mut at = 0;
     let mut count = begun;
     let mut used = 0;
     while at < chunk.len() {
         if out.len() - used < 8192 {
             return Taken {
-                drawing: d,
+                drawing,
                 at,
                 count,
                 used,
@@ -62,15 +56,15 @@ pub fn take_lines(
         }
         match next_line(chunk, at, held, count) {
             Cut::Line { count: n, next } => {
-                let s = print(d, &held[..n], out, used);
-                d = s.drawing;
+                let s = print(drawing, &held[..n], out, used);
+                drawing = s.drawing;
                 used = s.length;
                 count = 0;
                 at = next;
             }
             Cut::More { count: n } => {
                 return Taken {
-                    drawing: d,
+                    drawing,
                     at: chunk.len(),
                     count: n,
                     used,
@@ -79,7 +73,7 @@ pub fn take_lines(
         }
     }
     Taken {
-        drawing: d,
+        drawing,
         at,
         count,
         used,

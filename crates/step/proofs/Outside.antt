@@ -1,0 +1,42 @@
+-- KIND outside 0 to 2 or ORIENT outside 0 to 7 gets 4, whatever else the line says: `outside-four`.
+use mathlib.Core.Path.{_≡_, refl, ap, _∙_}
+use mathlib.Core.Bool.{Bool, true, false, _&&_, cond}
+use mathlib.Core.Logic.{_⊎_, inl, inr}
+use mathlib.Core.List.{List}
+use Prim.Native.Nat.{ℕ, _<_, _≤_}
+use native.Mathlib.Omega.{arith}
+use lib.Dec.{leb, ltb}
+use lib.IntN.{ℤ, pos, negsuc}
+use borrow.Author.Tests.{lt-leb, le-ltb}
+use Rattle.lists.proofs.Tests.{choose, ltb-reads}
+use Rattle.orientation.specs.Orientations.{sameOf, numberOf, known, numberedOf}
+use Rattle.label.specs.declared.Label.{Label}
+use Rattle.sheet.specs.declared.Drawing.{Drawing}
+use Rattle.sheet.specs.declared.Tally.{Tally}
+use Rattle.redraw.specs.Calls.{refused, unless, addComponent}
+use Rattle.step.specs.Steps.{choiceOf}
+
+-- a number outside 0 to m
+pub data Outside (m : ℕ) : ℤ → Type 0 where
+  above : {n : ℕ} → m < n → Outside m (pos n)
+  below : {n : ℕ} → Outside m (negsuc n)
+
+no-kind : {z : ℤ} → Outside 2 z → leb (choiceOf z) 2 ≡ false
+unfolding choiceOf
+no-kind (above {n} h) = choose (ltb-reads n 8) (λ k. leb k 2 ≡ false) (λ _. lt-leb n 2 h) (λ _. refl)
+no-kind below = refl
+
+no-orientation : {z : ℤ} → Outside 7 z → known (numberedOf (choiceOf z) .turn) ≡ false
+unfolding choiceOf numberedOf numberOf sameOf
+no-orientation (above {n} h) = rw (le-ltb n 8 h)
+no-orientation below = refl
+
+and-false : (a : Bool) {b : Bool} → b ≡ false → a && b ≡ false
+and-false true e = e
+and-false false e = refl
+
+pub outside-four : (d : Drawing) (kind orient x y : ℤ) (b : Label) (t : Tally) → Outside 2 kind ⊎ Outside 7 orient
+    → addComponent d (choiceOf kind) (numberedOf (choiceOf orient) .turn) x y b t ≡ refused 4 d t
+unfolding addComponent
+outside-four d kind orient x y b t (inl o) = rw (no-kind o)
+outside-four d kind orient x y b t (inr o) = rw (and-false (leb (choiceOf kind) 2) (no-orientation o))
