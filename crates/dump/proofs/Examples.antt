@@ -1,7 +1,7 @@
 -- Lines of rows as they are printed.
 use mathlib.Core.Path.{_≡_, refl}
 use mathlib.Core.Bool.{true}
-use mathlib.Core.List.{[], _∷_, _++_}
+use mathlib.Core.List.{[], _∷_}
 use lib.ListN.{replicate}
 use Rattle.orientation.specs.Orientations.{eighth, sameOf, numberOf}
 use Rattle.label.specs.Labels.{labelPart}

@@ -5,7 +5,7 @@ use Prim.Native.Nat.{ℕ, _+_, _≤_}
 use native.Mathlib.Omega.{arith}
 use lib.ListN.{length, length-append}
 use Rattle.text.specs.Text.{Put}
-use Rattle.text.proofs.Puts.{put-then, put-as}
+use Rattle.text.proofs.Puts.{put-then}
 use Rattle.dump.specs.Rows.{Puts}
 
 pub puts-byte : {a c : List ℕ} {b i j : ℕ} → Put a i (b ∷ []) c j → Puts 1 a i (b ∷ []) c j

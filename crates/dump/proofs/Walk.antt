@@ -1,10 +1,10 @@
 -- A loop over the rows of a table that puts a line for each: what is left to put are the lines of the rows from i on.
 use mathlib.Core.Path.{_≡_, refl, ap, _∙_}
-use mathlib.Core.List.{List, [], _∷_, _++_}
+use mathlib.Core.List.{List}
 use Prim.Native.Nat.{ℕ, _+_, _*_, _≤_, _<_}
 use native.Mathlib.Nat.{mul-add, mul-le-mul-left}
 use native.Mathlib.Omega.{arith}
-use lib.ListN.{length, getD, take, drop, length-append}
+use lib.ListN.{length, getD, take, drop}
 use Rattle.lists.specs.Lists.{gather}
 use Rattle.lists.proofs.Walks.{rows-from, rows-past}
 use Rattle.text.specs.Text.{Put}

@@ -1,14 +1,13 @@
 -- What stands behind an answer.
-use mathlib.Core.Path.{_≡_, refl, sym, ap, subst}
+use mathlib.Core.Path.{_≡_, refl, ap}
 use mathlib.Core.Bool.{Bool, true, false}
 use mathlib.Core.Logic.{⊎-elim}
-use mathlib.Core.List.{List, [], _∷_, _++_}
-use Prim.Native.Nat.{ℕ, _≤_}
+use mathlib.Core.List.{List, [], _∷_}
+use Prim.Native.Nat.{ℕ}
 use native.Mathlib.Omega.{arith}
 use types.Run.{OneOf}
 use denote.Enum.Declared.{tagOf}
 use Rattle.sheet.specs.declared.Drawing.{Drawing}
-use Rattle.sheet.specs.declared.Joints.{Joints}
 use Rattle.sheet.specs.declared.Tally.{Tally}
 use Rattle.sheet.specs.Drawings.{Sized, listsOf, tallyOf, drawn}
 use Rattle.sheet.specs.Rules.{Lawful}
@@ -30,7 +29,7 @@ asks-none (Place kind orient x y label) k = refl
 asks-none (Delete x y size) k = refl
 asks-none (Turn x y size) k = refl
 asks-none (Mirror x y size) k = refl
-asks-none Nets k = absurd (⊎-elim (λ e. omega (arith, e)) (⊎-elim (λ e. omega (arith, e)) (⊎-elim (λ e. omega (arith, e)) (⊎-elim (λ e. omega (arith, e)) (⊎-elim (λ e. omega (arith, e)) (⊎-elim (λ e. omega (arith, e)) (λ e. omega (arith, e))))))) k)
+asks-none Nets k = absurd (⊎-elim (λ e. omega arith) (⊎-elim (λ e. omega arith) (⊎-elim (λ e. omega arith) (⊎-elim (λ e. omega arith) (⊎-elim (λ e. omega arith) (⊎-elim (λ e. omega arith) (λ e. omega arith)))))) k)
 asks-none Unreadable k = refl
 
 -- the joints of a lawful drawing are those of its wires and components

@@ -1,4 +1,5 @@
-// Reads a panel script on standard input and prints, behind each answer, the tally and all rows of the drawing.
+// Reads a panel script on standard input and prints, behind each answer, the tally and all rows of the drawing. `stdin` and `stdout`
+// are a script and what the Rust prints for it: `oracle/target/release/oracle sample rows crates/panel_rows` makes both again.
 mod rows;
 
 ghost use Prim.Native.Nat.{_≤_};

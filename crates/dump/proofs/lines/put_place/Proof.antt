@@ -1,11 +1,7 @@
 -- `dump::put_place` meets its contract: a space and the coordinate with its sign.
-use mathlib.Core.Path.{_≡_, sym, ap, _∙_}
+use mathlib.Core.Path.{ap}
 use native.Mathlib.Omega.{arith}
-use lib.IntN.{ℤ}
 use lib.ListN.{length}
-use mir.Syntax.{w32}
-use mir.Val.{toZ, ofZ}
-use Rattle.text.specs.Text.{signedOf}
 use Rattle.text.proofs.Puts.{put-as}
 use Rattle.dump.proofs.Runs.{puts-byte, puts-then, puts-short}
 use Rattle.dump.specs.Rows.{placeWord}

@@ -1,5 +1,4 @@
 -- `panel_rows::put_behind` meets its contract: the line that ends a list, or the rows with the tally of the drawing.
-use mathlib.Core.Path.{ap}
 use Rattle.sheet.proofs.Owned.{owned}
 use Rattle.panel_rows.proofs.Behind.{lawful-counted, list-behind, rows-behind}
 use borrow.Author.Needs.{needs}

@@ -1,7 +1,6 @@
 -- `panel_rows::rows_step` meets its contract: the answer in front of 8,192 bytes, and the rows put behind it.
-use mathlib.Core.Path.{_≡_, sym, ap, _∙_}
 use native.Mathlib.Omega.{arith}
-use lib.ListN.{length, take, length-take}
+use lib.ListN.{length-take}
 use Rattle.panel_rows.proofs.Fitted.{within, stepped}
 use borrow.Author.Needs.{needs}
 use Rattle.panel_rows.proofs.rows.rows_step.Statement.{statement}
