@@ -13,10 +13,7 @@ use Rattle.sheet.specs.Lines.{Before, turned, next-line, same-line}
 use Rattle.sheet.specs.Wiring.{Fits, AllFit}
 use Rattle.sheet.proofs.Before.{before-trans}
 use Rattle.lawful.specs.Looks.{before}
-
-pub true-reads : (b : Bool) → Reads (b ≡ true) b
-true-reads true = pass refl
-true-reads false = fail (λ e. clash e refl)
+use Rattle.lawful.proofs.Rows.{true-reads}
 
 false-reads : (b : Bool) → Reads (b ≡ false) (not b)
 false-reads true = fail (λ e. clash refl e)

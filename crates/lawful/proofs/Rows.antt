@@ -1,13 +1,17 @@
--- Two joint rows that pass the test are one.
-use mathlib.Core.Bool.{true}
-use mathlib.Core.Path.{_≡_, ap, sym, subst}
+-- Tests, read: a yes, and two joint rows that are one.
+use mathlib.Core.Bool.{Bool, true, false}
+use mathlib.Core.Path.{_≡_, refl, ap, sym, subst}
 use lib.Dec.{T}
-use Rattle.lists.proofs.Tests.{holds, and-reads, eqb-reads}
+use Rattle.lists.proofs.Tests.{Reads, pass, fail, clash, holds, and-reads, eqb-reads}
 use Rattle.symbol.specs.declared.Point.{Point}
 use Rattle.sheet.specs.declared.Joint.{Joint}
 use Rattle.sheet.specs.Joints.{place}
 use Rattle.sheet.proofs.Points.{same-reads}
 use Rattle.rules.specs.Steps.{sameRow}
+
+pub true-reads : (b : Bool) → Reads (b ≡ true) b
+true-reads true = pass refl
+true-reads false = fail (λ e. clash e refl)
 
 pub one-row : (i j : Joint) → sameRow i j ≡ true → i ≡ j
 unfolding sameRow

@@ -2,8 +2,8 @@
 use Prim.Native.Nat.{_-_, _≤_}
 use native.Mathlib.Omega.{arith}
 use mathlib.Core.Bool.{Bool, true, false, _&&_}
-use mathlib.Core.List.{List, map}
-use mathlib.Core.Path.{_≡_, refl, sym, ap, ap₂, subst, _∙_}
+use mathlib.Core.List.{List}
+use mathlib.Core.Path.{_≡_, refl, sym, ap, subst, _∙_}
 use lib.Dec.{T}
 use lib.ListN.{length, length-append, length-take, replicate}
 use lib.Seq.{take-append-seam}
@@ -18,22 +18,23 @@ use Rattle.sheet.specs.declared.Joint.{Joint}
 use Rattle.sheet.specs.declared.Joints.{Joints}
 use Rattle.sheet.specs.declared.Drawing.{Drawing}
 use Rattle.sheet.specs.Lines.{ends, marks, Follows, Before, tip, high}
-use Rattle.sheet.specs.Joints.{jointsOf}
+use Rattle.sheet.specs.Joints.{jointsOf, Rising}
 use Rattle.sheet.specs.Parts.{position, padsOf, ahead}
 use Rattle.sheet.specs.Drawings.{Sheet, zeroJoint, wireRows, jointRows, jointTable, listsOf, marksOf, Sized}
 use Rattle.sheet.specs.Wiring.{AllFit, Held, Wired}
 use Rattle.sheet.specs.Rules.{Rule2, Rule3, Rule5, Lawful}
 use Rattle.sheet.proofs.Points.{rises-reads, rise-chain}
-use Rattle.sheet.proofs.JointRows.{rules-6-7, length-joints, length-ends}
+use Rattle.sheet.proofs.JointRows.{rules-6-7, joints-rising, length-joints, length-ends}
 use Rattle.sheet.proofs.RowOrder.{rules-2-7}
 use Rattle.sheet.proofs.Rules.{wired-rules}
 use Rattle.wires.specs.declared.Points.{Points}
 use Rattle.wires.specs.Tables.{pointRows}
 use Rattle.rules.specs.Check.{check1}
 use Rattle.rules.proofs.Decides.{reads1}
-use Rattle.lawful.specs.Looks.{before, seen, turn, Runs}
-use Rattle.lawful.proofs.Ordered.{true-reads, ordered}
-use Rattle.lawful.proofs.Seen.{seen-level, turn-marks, none-inside, held-apart}
+use Rattle.lawful.specs.Looks.{before, Runs}
+use Rattle.lawful.proofs.Ordered.{ordered}
+use Rattle.lawful.proofs.Rows.{true-reads}
+use Rattle.lawful.proofs.Seen.{none-inside, held-apart}
 
 -- what holds in both directions
 either : (v : Bool) (P : Bool → Type 0) → P false → P true → P v
@@ -53,9 +54,9 @@ table-rows xs e = ap jointRows e ∙ take-append-seam xs (replicate (1408 - leng
 
 -- ---- wires
 
--- in order, and those of each direction clear over the joints seen along it
-wired : {ws : List Wire} (ps : List Point) {js upright : List Joint} → AllFit ws → T (links before ws) → js ≡ jointsOf (marks ws ps) → Runs false js ws → upright ≡ jointsOf (map (seen true) (marks ws ps)) → Runs true upright ws → Wired ws ps
-wired {ws} ps {js} fits t e level f up = record { clean = record { fits = fits; order = order; clear = clear }; anchored = anchored }
+-- in order, and those of each direction clear
+wired : {ws : List Wire} (ps : List Point) {js : List Joint} → AllFit ws → T (links before ws) → js ≡ jointsOf (marks ws ps) → Runs false js ws → Runs true js ws → Wired ws ps
+wired {ws} ps {js} fits t e level up = record { clean = record { fits = fits; order = order; clear = clear }; anchored = anchored }
   where
     order : Rows Before ws
     order = ordered ws fits t
@@ -63,24 +64,21 @@ wired {ws} ps {js} fits t e level f up = record { clean = record { fits = fits; 
     two : Rule2 ws
     two = rules-2-7 fits .0 order .0
 
-    e′ : js ≡ jointsOf (map (seen false) (marks ws ps))
-    e′ = e ∙ ap jointsOf (sym (seen-level (marks ws ps)))
-
     clear : Rule3 ws ps
-    clear p m w n i = either (w .vertical) (λ v. w .vertical ≡ v → ⊥) (λ d. none-inside ps false e′ level p m w n d i) (λ d. none-inside ps true f up p m w n d i) refl
+    clear p m w n i = either (w .vertical) (λ v. w .vertical ≡ v → ⊥) (λ d. none-inside ps false e level p m w n d i) (λ d. none-inside ps true e up p m w n d i) refl
 
     anchored : (a b : Wire) → a ∈ ws → b ∈ ws → Follows a b → Held ws ps (a .vertical) (tip high a)
-    anchored a b m n g = either (a .vertical) (λ v. a .vertical ≡ v → Held ws ps (a .vertical) (tip high a)) (held-apart ps false e′ level fits two order a b m n g) (held-apart ps true f up fits two order a b m n g) refl
+    anchored a b m n g = either (a .vertical) (λ v. a .vertical ≡ v → Held ws ps (a .vertical) (tip high a)) (held-apart ps false e level fits two order a b m n g) (held-apart ps true e up fits two order a b m n g) refl
 
 -- what the looks at the wires answer
-module _ (ws turned : Wires) (pads points : Points) {js upright : Joints} {a b c : Bool} where
-  pub wires-sound : js ≡ jointTable (jointsOf (marks (wireRows ws) (pointRows pads))) → wireRows turned ≡ map turn (wireRows ws) → pointRows points ≡ map (seen true) (pointRows pads) → upright ≡ jointTable (jointsOf (marks (wireRows turned) (pointRows points)))
-      → a ≡ links before (wireRows ws) → (b ≡ true → Runs false (jointRows js) (wireRows ws)) → (c ≡ true → Runs true (jointRows upright) (wireRows ws)) → (a && (b && c)) ≡ true → AllFit (wireRows ws) → Wired (wireRows ws) (pointRows pads)
-  wires-sound e f g h p q r t fits =
+module _ (ws : Wires) (pads : Points) {js : Joints} (e : js ≡ jointTable (jointsOf (marks (wireRows ws) (pointRows pads)))) where
+  pub joints-rise : Rising (jointRows js)
+  joints-rise = subst Rising (sym (table-rows (jointsOf (marks (wireRows ws) (pointRows pads))) e)) (joints-rising (marks (wireRows ws) (pointRows pads)))
+
+  pub wires-sound : {a b c : Bool} → a ≡ links before (wireRows ws) → (b ≡ true → Runs false (jointRows js) (wireRows ws)) → (c ≡ true → Runs true (jointRows js) (wireRows ws)) → (a && (b && c)) ≡ true → AllFit (wireRows ws) → Wired (wireRows ws) (pointRows pads)
+  wires-sound {a} {b} {c} p q r t fits =
       let k = holds (and-reads (true-reads a) (and-reads (true-reads b) (true-reads c))) (subst T (sym t) tt) in
-      let up : jointRows upright ≡ jointsOf (map (seen true) (marks (wireRows ws) (pointRows pads)))
-      = table-rows (jointsOf (marks (wireRows turned) (pointRows points))) h ∙ ap₂ (λ (vs : List Wire) (qs : List Point). jointsOf (marks vs qs)) f g ∙ ap jointsOf (turn-marks (wireRows ws) (pointRows pads)) in
-      wired (pointRows pads) fits (subst T (sym (sym p ∙ k .0)) tt) (table-rows (jointsOf (marks (wireRows ws) (pointRows pads))) e) (q (k .1 .0)) up (r (k .1 .1))
+      wired (pointRows pads) fits (subst T (sym (sym p ∙ k .0)) tt) (table-rows (jointsOf (marks (wireRows ws) (pointRows pads))) e) (q (k .1 .0)) (r (k .1 .1))
 
 -- ---- the drawing
 

@@ -1,13 +1,12 @@
--- Walks over rows that tell of all rows what they saw of each.
-use Prim.Native.Nat.{ℕ, zero, suc, _+_, _-_, _≤_, _<_}
+-- Walks over rows that tell of all rows what they saw of each, and rows by their places.
+use Prim.Native.Nat.{ℕ, zero, suc, _+_, _≤_, _<_}
 use native.Mathlib.Omega.{arith}
-use mathlib.Core.Path.{_≡_, refl, sym, ap, ap₂, subst, _∙_}
-use mathlib.Core.List.{List, [], _∷_, _++_, map, map-append}
-use lib.ListN.{length, getD, take, drop, set}
-use Rattle.lists.proofs.Tables.{take-push}
-use Rattle.lists.proofs.Passes.{take-more}
+use mathlib.Core.Path.{_≡_, refl, sym, ap₂, subst, _∙_}
+use mathlib.Core.List.{List, [], _∷_, List·Memᴰ·head as ∈-head, List·Memᴰ·tail as ∈-tail}
+use lib.ListN.{length, getD, take, drop}
+use lib.Seq.{getD-take, length-take-le}
+use Rattle.lists.specs.Lists.{_∈_, Rows, none, more}
 use Rattle.lists.proofs.Walks.{rows-from, rows-past}
-use Rattle.lawful.specs.Looks.{Next, here, there}
 
 module _ {A : Type 0} where
   -- ---- two tables, row by row: where the rows from k on are the same, all are
@@ -23,32 +22,32 @@ module _ {A : Type 0} where
   pub alike-end : {l r : List A} {n k : ℕ} → Alike l r n k → n ≤ k → n ≤ length l → n ≤ length r → take n l ≡ take n r
   alike-end {l} {r} {n} {k} s h a b = s .rest (rows-past l n k h a ∙ sym (rows-past r n k h b))
 
-  -- ---- a row and the next one
+  -- ---- rows by their places
 
-  next-drop : (xs : List A) (k : ℕ) {x y : A} → Next x y (drop k xs) → Next x y xs
-  next-drop xs zero n = n
-  next-drop [] (suc k) n = n
-  next-drop (x ∷ xs) (suc k) n = there (next-drop xs k n)
+  row-at : (xs : List A) (j : ℕ) (d : A) → j < length xs → getD xs j d ∈ xs
+  row-at [] j d h = absurd (omega arith)
+  row-at (x ∷ xs) zero d h = ∈-head refl
+  row-at (x ∷ xs) (suc j) d h = ∈-tail (row-at xs j d (omega arith))
 
-  pub next-at : (l : List A) (n k : ℕ) (d e : A) → 1 ≤ k → k < n → n ≤ length l → Next (getD l (k - 1) d) (getD l k e) (take n l)
-  next-at l n k d e p h a =
-      let back : k - 1 + 1 ≡ k = omega arith in
-      let f : drop (k - 1) (take n l) ≡ getD l (k - 1) d ∷ getD l k e ∷ drop (k + 1) (take n l)
-      = rows-from l n (k - 1) d (omega arith) a ∙ ap (λ (xs : List A). getD l (k - 1) d ∷ xs) (ap (λ (m : ℕ). drop m (take n l)) back ∙ rows-from l n k e h a) in
-      next-drop (take n l) (k - 1) (subst (λ (xs : List A). Next (getD l (k - 1) d) (getD l k e) xs) (sym f) here)
+  place-of : {x : A} {xs : List A} (d : A) → x ∈ xs → (r : ℕ) × r < length xs × (getD xs r d ≡ x)
+  place-of d (∈-head e) = (zero, omega arith, sym e)
+  place-of d (∈-tail m) = let t = place-of d m in (suc (t .0), omega (arith, t .1), t .2)
 
--- ---- the first i rows are those of the list, each by f
-pub record Mapped {A B : Type 0} (f : A → B) (l : List A) (i : ℕ) (rows : List B) : Type 0 where
-  pub so-far : take i rows ≡ map f (take i l)
+  rows-at : {R : A → A → Type 0} {xs : List A} → Rows R xs → (i j : ℕ) (d : A) → i < j → j < length xs → R (getD xs i d) (getD xs j d)
+  rows-at none i j d g h = absurd (omega arith)
+  rows-at (more {xs} f s) i zero d g h = absurd (omega arith)
+  rows-at (more {xs} f s) zero (suc j) d g h = f (getD xs j d) (row-at xs j d (omega arith))
+  rows-at (more {xs} f s) (suc i) (suc j) d g h = rows-at s i j d (omega arith) (omega arith)
 
-module _ {A B : Type 0} {f : A → B} where
-  pub mapped-none : (l : List A) (rows : List B) → Mapped f l 0 rows
-  mapped-none l rows = record { so-far = refl }
+  -- the same of the first n rows of a table
+  pub table-at : {R : A → A → Type 0} (l : List A) (n : ℕ) → Rows R (take n l) → n ≤ length l → (i j : ℕ) (d : A) → i < j → j < n → R (getD l i d) (getD l j d)
+  table-at {R} l n r a i j d g h =
+      let z : length (take n l) ≡ n = length-take-le n l a in
+      subst (λ (x : A). R x (getD l j d)) (getD-take n l i d (omega arith)) (subst (λ (y : A). R (getD (take n l) i d) y) (getD-take n l j d h) (rows-at r i j d g (omega arith)))
 
-  pub mapped-next : {l : List A} {rows : List B} {i : ℕ} (d : A) → Mapped f l i rows → i < length l → i < length rows → Mapped f l (i + 1) (set rows i (f (getD l i d)))
-  mapped-next {l} {rows} {i} d s h k = record {
-    so-far = take-push rows i (f (getD l i d)) k ∙ ap (λ (r : List B). r ++ (f (getD l i d) ∷ [])) (s .so-far) ∙ sym (ap (map f) (take-more l i d h) ∙ map-append f (take i l) (getD l i d ∷ []));
-  }
-
-  pub mapped-end : {l : List A} {rows : List B} {i : ℕ} (n : ℕ) → Mapped f l i rows → i ≡ n → take n rows ≡ map f (take n l)
-  mapped-end {l} {rows} n s e = subst (λ (k : ℕ). take k rows ≡ map f (take k l)) e (s .so-far)
+  pub table-place : (l : List A) (n : ℕ) {x : A} (d : A) → x ∈ take n l → n ≤ length l → (r : ℕ) × r < n × (getD l r d ≡ x)
+  table-place l n d m a =
+      let z : length (take n l) ≡ n = length-take-le n l a in
+      let t = place-of d m in
+      let h : t .0 < n = omega (arith, t .1) in
+      (t .0, h, sym (getD-take n l (t .0) d h) ∙ t .2)

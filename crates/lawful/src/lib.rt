@@ -1,10 +1,10 @@
-// The drawing check, near linear on a lawful drawing: ends are searched for in order and then looked at, and only what is
+// The drawing check, near linear on a lawful drawing: joints are searched for in order and then looked at, and only what is
 // looked at counts. Where anything is off, the plain check names the rule.
 pub mod boxes;
+pub mod columns;
 pub mod listed;
 pub mod order;
 pub mod runs;
-pub mod turned;
 
 ghost use mathlib.Core.Path.{_≡_};
 ghost use mathlib.Core.Bool.{true};
@@ -17,11 +17,11 @@ ghost use Rattle.sheet.specs.Rules.{Lawful};
 ghost use Rattle.wires.specs.Tables.{pointRows};
 ghost use Rattle.rules.specs.Check.{checkOf};
 use crate::boxes::none_touch;
+use crate::columns::by_column;
 use crate::listed::same_rows;
 use crate::order::wires_in_order;
-use crate::runs::runs_clear;
-use crate::turned::turned_points;
-use crate::turned::turned_wires;
+use crate::runs::levels_clear;
+use crate::runs::uprights_clear;
 use joints::count_joints;
 use parts::pads::all_pads;
 use rules::Checked;
@@ -32,16 +32,13 @@ use sheet::Joints;
 use sheet::Wires;
 use wires::Points;
 
-// Rules 2 to 4 and 7 of wires hold: horizontal wires over the joints, vertical ones over those of the drawing with x and y
-// exchanged.
+// Rules 2 to 4 and 7 of wires hold.
 fn wires_right(ws: Wires, pads: Points, js: Joints) -> bool
     requires { ⌜ (ws .count ≤ 512) × ((pads .count ≤ 384) × (js ≡ jointTable (jointsOf (marks (wireRows ws) (pointRows pads))))) ⌝ }
     ensures { λ r. ⌜ (r ≡ true → AllFit (wireRows ws) → Wired (wireRows ws) (pointRows pads)) ⌝ }
 {
-    let turned = turned_wires(ws);
-    let turned_pads = turned_points(pads);
-    let upright = count_joints(turned, turned_pads);
-    wires_in_order(ws) & (runs_clear(ws, js, false) & runs_clear(ws, upright, true))
+    let cols = by_column(js);
+    wires_in_order(ws) & (levels_clear(ws, js) & uprights_clear(ws, js, cols))
 }
 
 // Only a lawful drawing passes.

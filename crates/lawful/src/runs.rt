@@ -1,30 +1,37 @@
-// Rules 3 and 4 of the wires of one direction, over the joints seen along it: these rise by line and then along it, so that
-// the joints of a line stand next to each other.
+// Rules 3 and 4: each wire goes from a joint to the next one of its line, and where two wires go on in line more than their two
+// ends meet.
 ghost use mathlib.Core.Path.{_≡_};
-ghost use mathlib.Core.Bool.{true};
+ghost use mathlib.Core.Bool.{true, false};
 ghost use Prim.Native.Nat.{_≤_};
+ghost use Rattle.sheet.specs.Joints.{Rising};
 ghost use Rattle.sheet.specs.Drawings.{wireRows, jointRows};
-ghost use Rattle.lawful.specs.Looks.{clears, Runs};
+ghost use Rattle.lawful.specs.Looks.{clears, Chained, Runs};
+use crate::columns::Columns;
+use crate::columns::column;
 use sheet::Joint;
 use sheet::Joints;
 use sheet::Wire;
 use sheet::Wires;
+use symbol::Point;
+use wires::lines::high_tip;
+use wires::lines::low_tip;
+use wires::lines::same;
 
-// Wire w, whose row before is a, is of the other direction; or the joints i and j are its two ends, and where a goes on in it
-// more than their two ends lie at i.
-fn is_clear(vertical: bool, a: Wire, w: Wire, i: Joint, j: Joint) -> bool
-    ensures { λ r. ⌜ r ≡ clears vertical a w i j ⌝ }
+// The joints i and j are the two ends of wire w, and where wire a goes on in it more than their two ends lie at i.
+fn is_clear(a: Wire, w: Wire, i: Joint, j: Joint) -> bool
+    ensures { λ r. ⌜ r ≡ clears a w i j ⌝ }
 {
-    !(w.vertical == vertical)
-        | ((((i.x == w.start) & (i.y == w.line)) & ((j.x == w.end) & (j.y == w.line)))
-            & (!((a.vertical == w.vertical) & ((a.line == w.line) & (a.end == w.start)))
-                | !(i.count == 2)))
+    let p = Point { x: i.x, y: i.y };
+    let q = Point { x: j.x, y: j.y };
+    (same(p, low_tip(w)) & same(q, high_tip(w)))
+        & (!((a.vertical == w.vertical) & ((a.line == w.line) & (a.end == w.start)))
+            | !(i.count == 2))
 }
 
-// Each wire of the direction goes from a joint to the next one. The joints that follow on a wire's are tried until they fit.
-pub fn runs_clear(ws: Wires, js: Joints, vertical: bool) -> bool
-    requires { ⌜ (ws .count ≤ 512) × (js .count ≤ 1408) ⌝ }
-    ensures { λ r. ⌜ (r ≡ true → Runs vertical (jointRows js) (wireRows ws)) ⌝ }
+// Horizontal wires: joint rows of one line stand next to each other. Those that follow are tried until they fit.
+pub fn levels_clear(ws: Wires, js: Joints) -> bool
+    requires { ⌜ (ws .count ≤ 512) × ((js .count ≤ 1408) × Rising (jointRows js)) ⌝ }
+    ensures { λ r. ⌜ (r ≡ true → Runs false (jointRows js) (wireRows ws)) ⌝ }
 {
     let n = ws.count;
     let m = js.count;
@@ -38,11 +45,61 @@ pub fn runs_clear(ws: Wires, js: Joints, vertical: bool) -> bool
         let w = ws.rows[i];
         let p = js.rows[k - 1];
         let q = js.rows[k];
-        if is_clear(vertical, last, w, p, q) {
+        if w.vertical | is_clear(last, w, p, q) {
             last = w;
             i += 1;
         } else {
             k += 1;
+        }
+    }
+    true
+}
+
+fn index(n: u16) -> usize
+    ensures { λ r. ⌜ r ≡ n ⌝ }
+{
+    n as usize
+}
+
+// Vertical wires: each column is followed by its own chain, as far as it was looked at.
+pub fn uprights_clear(ws: Wires, js: Joints, cols: Columns) -> bool
+    requires { ⌜ (ws .count ≤ 512) × ((js .count ≤ 1408) × Rising (jointRows js)) ⌝ }
+    requires { ⌜ Chained (js .rows) (js .count) (cols .next) ⌝ }
+    ensures { λ r. ⌜ (r ≡ true → Runs true (jointRows js) (wireRows ws)) ⌝ }
+{
+    let n = ws.count;
+    let m = js.count;
+    let mut at = cols.first;
+    let mut last = ws.rows[0];
+    let mut steps = n + m;
+    let mut i = 0;
+    while i < n {
+        if steps == 0 {
+            return false;
+        }
+        steps -= 1;
+        let w = ws.rows[i];
+        if !w.vertical {
+            last = w;
+            i += 1;
+        } else {
+            let c = column(w.line);
+            let k = index(at[c]);
+            if m <= k {
+                return false;
+            }
+            let r = index(cols.next[k]);
+            if m <= r {
+                return false;
+            }
+            let p = js.rows[k];
+            let q = js.rows[r];
+            if is_clear(last, w, p, q) {
+                last = w;
+                i += 1;
+            } else {
+                at[c] = cols.next[k];
+            }
         }
     }
     true

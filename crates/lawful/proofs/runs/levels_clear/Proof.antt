@@ -1,20 +1,20 @@
--- Each wire passed is clear; the joints before k - 1 are done with.
+-- Each horizontal wire passed is clear; the joints before k - 1 are done with.
 use Prim.Native.Nat.{_+_, _-_, _≤_}
 use native.Mathlib.Omega.{arith}
-use mathlib.Core.Bool.{false≢true}
-use mathlib.Core.Path.{_≡_, sym, _∙_}
+use mathlib.Core.Bool.{false, false≢true}
+use mathlib.Core.Path.{_≡_}
 use lib.ListN.{length, take}
 use borrow.Author.Needs.{needs}
 use Rattle.lists.proofs.Tables.{long}
-use Rattle.lawful.proofs.Running.{Running, running-start, running-next, running-end}
-use Rattle.lawful.proofs.runs.runs_clear.Statement.{statement}
-use Rattle.lawful.proofs.runs.runs_clear.Tie as tie
+use Rattle.lawful.proofs.Running.{Running, running-start, running-next, running-end, level-clear}
+use Rattle.lawful.proofs.runs.levels_clear.Statement.{statement}
+use Rattle.lawful.proofs.runs.levels_clear.Tie as tie
 
 abbrev Inv-loop : tie.InvT-loop
-Inv-loop vertical ws js n m last₀ k₀ i₀ last k i = ((1 ≤ k) × (i ≤ n)) × ((length (ws .rows) ≡ 512) × (length (js .rows) ≡ 1408)) × Running vertical (take m (js .rows)) (ws .rows) n i last₀ last
+Inv-loop ws js n m last₀ k₀ i₀ last k i = ((1 ≤ k) × (i ≤ n)) × ((length (ws .rows) ≡ 512) × (length (js .rows) ≡ 1408)) × Running false (take m (js .rows)) (ws .rows) n i last₀ last
 
 abbrev μ-loop : tie.MeasureT-loop
-μ-loop vertical ws js n m last₀ k₀ i₀ last k i = (n - i) + (m - k)
+μ-loop ws js n m last₀ k₀ i₀ last k i = (n - i) + (m - k)
 
 element-copy-out-last : tie.Need-element-copy-out-last Inv-loop μ-loop
 element-copy-out-last c = omega arith
@@ -56,7 +56,16 @@ loop-less : tie.Need-loop-less Inv-loop μ-loop
 loop-less c = omega arith
 
 loop-again : tie.Need-loop-again Inv-loop μ-loop
-loop-again c = let v = c .before .before .before .before .before .before .before .loop .inv in ((omega arith, omega arith), v .1, running-next (c .before .before .before .before .before .before .before .before .before .args .t2 .rows) (c .before .before .before .before .before .before .before .before .before .args .t2 .count) (c .before .before .before .before .before .before .before .loop .k) _ _ _ (v .2) (sym (c .before .is-clear .ensures) ∙ c .if2 .taken) (omega arith) (omega arith) (omega arith) (omega arith) (omega arith))
+loop-again c =
+    let v = c .before .before .before .before .before .before .before .before .loop .inv in
+    let js = c .before .before .before .before .before .before .before .before .before .before .args .t2 in
+    let size : length (js .rows) ≡ 1408 = v .1 .1 in (
+      (omega arith, omega arith),
+      v .1,
+      running-next _ (v .2)
+          (λ d. level-clear (js .rows) (js .count) (c .before .before .before .before .before .before .before .before .before .before .pre .1 .1) (omega arith) _ _ (c .before .before .before .before .before .before .before .before .loop .k) (c .before .before .is-clear .ensures) (c .if2 .taken) (omega arith) (omega arith) d)
+          (omega arith) (omega arith),
+    )
 
 add-k : tie.Need-add-k Inv-loop μ-loop
 add-k c = omega arith
@@ -65,13 +74,13 @@ loop-less-2 : tie.Need-loop-less-2 Inv-loop μ-loop
 loop-less-2 c = omega arith
 
 loop-again-2 : tie.Need-loop-again-2 Inv-loop μ-loop
-loop-again-2 c = let v = c .before .before .before .before .before .before .before .loop .inv in ((omega arith, omega arith), v .1, v .2)
+loop-again-2 c = let v = c .before .before .before .before .before .before .before .before .loop .inv in ((omega arith, omega arith), v .1, v .2)
 
 returns-2 : tie.Need-returns-2 Inv-loop μ-loop
 returns-2 c = λ e. running-end (c .before .loop .inv .2) (omega arith) (omega arith)
 
-pub runs-clear-spec : {M : Type 1} → statement M
-runs-clear-spec =
+pub levels-clear-spec : {M : Type 1} → statement M
+levels-clear-spec =
     tie.close
     (tie.spec
     Inv-loop
