@@ -54,6 +54,6 @@ clears a w i j = (same (place i) (tip low w) && same (place j) (tip high w)) && 
 
 -- ---- boxes
 
--- b is more than 300 above a
+-- b is more than 150 above a
 abbrev pub far : ℕ → ℕ → Bool
-far a b = ltb (a + 300) b
+far a b = ltb (a + 150) b

@@ -26,16 +26,18 @@ pub fn by_column(js: Joints) -> Columns
     requires { ⌜ js .count ≤ 1408 ⌝ }
     ensures { λ r. ⌜ Chained (js .rows) (js .count) (r .next) ⌝ }
 {
-    let mut first = [1408u16; 12001];
-    let mut next = [1408u16; 1408];
+    let mut out = Columns {
+        first: [1408; 12001],
+        next: [1408; 1408],
+    };
     let mut k = js.count;
     while 0 < k {
         let m = k - 1;
         let j = js.rows[m];
         let c = column(j.x);
-        next[m] = first[c];
-        first[c] = m as u16;
+        out.next[m] = out.first[c];
+        out.first[c] = m as u16;
         k = m;
     }
-    Columns { first, next }
+    out
 }

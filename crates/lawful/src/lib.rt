@@ -17,7 +17,6 @@ ghost use Rattle.sheet.specs.Rules.{Lawful};
 ghost use Rattle.wires.specs.Tables.{pointRows};
 ghost use Rattle.rules.specs.Check.{checkOf};
 use crate::boxes::none_touch;
-use crate::columns::by_column;
 use crate::listed::same_rows;
 use crate::order::wires_in_order;
 use crate::runs::levels_clear;
@@ -37,8 +36,7 @@ fn wires_right(ws: Wires, pads: Points, js: Joints) -> bool
     requires { ⌜ (ws .count ≤ 512) × ((pads .count ≤ 384) × (js ≡ jointTable (jointsOf (marks (wireRows ws) (pointRows pads))))) ⌝ }
     ensures { λ r. ⌜ (r ≡ true → AllFit (wireRows ws) → Wired (wireRows ws) (pointRows pads)) ⌝ }
 {
-    let cols = by_column(js);
-    wires_in_order(ws) & (levels_clear(ws, js) & uprights_clear(ws, js, cols))
+    wires_in_order(ws) & (levels_clear(ws, js) & uprights_clear(ws, js))
 }
 
 // Only a lawful drawing passes.

@@ -5,8 +5,8 @@ ghost use mathlib.Core.Bool.{true, false};
 ghost use Prim.Native.Nat.{_≤_};
 ghost use Rattle.sheet.specs.Joints.{Rising};
 ghost use Rattle.sheet.specs.Drawings.{wireRows, jointRows};
-ghost use Rattle.lawful.specs.Looks.{clears, Chained, Runs};
-use crate::columns::Columns;
+ghost use Rattle.lawful.specs.Looks.{clears, Runs};
+use crate::columns::by_column;
 use crate::columns::column;
 use sheet::Joint;
 use sheet::Joints;
@@ -62,14 +62,13 @@ fn index(n: u16) -> usize
 }
 
 // Vertical wires: each column is followed by its own chain, as far as it was looked at.
-pub fn uprights_clear(ws: Wires, js: Joints, cols: Columns) -> bool
+pub fn uprights_clear(ws: Wires, js: Joints) -> bool
     requires { ⌜ (ws .count ≤ 512) × ((js .count ≤ 1408) × Rising (jointRows js)) ⌝ }
-    requires { ⌜ Chained (js .rows) (js .count) (cols .next) ⌝ }
     ensures { λ r. ⌜ (r ≡ true → Runs true (jointRows js) (wireRows ws)) ⌝ }
 {
     let n = ws.count;
     let m = js.count;
-    let mut at = cols.first;
+    let mut cols = by_column(js);
     let mut last = ws.rows[0];
     let mut steps = n + m;
     let mut i = 0;
@@ -84,7 +83,7 @@ pub fn uprights_clear(ws: Wires, js: Joints, cols: Columns) -> bool
             i += 1;
         } else {
             let c = column(w.line);
-            let k = index(at[c]);
+            let k = index(cols.first[c]);
             if m <= k {
                 return false;
             }
@@ -98,7 +97,7 @@ pub fn uprights_clear(ws: Wires, js: Joints, cols: Columns) -> bool
                 last = w;
                 i += 1;
             } else {
-                at[c] = cols.next[k];
+                cols.first[c] = cols.next[k];
             }
         }
     }

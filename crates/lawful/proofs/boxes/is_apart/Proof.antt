@@ -1,4 +1,4 @@
--- Components far apart along x do not touch, and else the boxes tell.
+-- A component far from the box along x does not touch it, and else the boxes tell.
 use mathlib.Core.Bool.{_||_, not}
 use mathlib.Core.Path.{ap, sym, _∙_}
 use Rattle.lawful.proofs.Touching.{beside, untouched}
@@ -13,7 +13,7 @@ is-far-requires-2 : tie.Need-is-far-requires-2
 is-far-requires-2 c κs = search needs
 
 returns : tie.Need-returns
-returns c = λ e. beside (c .before .before .before .pre .0) (c .before .before .before .pre .1 .0) (sym (λ i. c .before .before .is-far .ensures i || c .before .is-far2 .ensures i) ∙ c .if1 .taken)
+returns c = λ e. beside _ (c .before .before .before .pre) (sym (λ i. c .before .before .is-far .ensures i || c .before .is-far2 .ensures i) ∙ c .if1 .taken)
 
 box-of-requires : tie.Need-box-of-requires
 box-of-requires c κs = search needs
@@ -22,7 +22,7 @@ touches-requires : tie.Need-touches-requires
 touches-requires c κs = search needs
 
 returns-2 : tie.Need-returns-2
-returns-2 c = λ e. untouched _ _ (c .before .before .before .before .before .pre .1 .1) (c .before .box-of .ensures) (ap not (sym (c .touches .ensures)) ∙ e)
+returns-2 c = λ e. untouched _ (c .before .box-of .ensures) (ap not (sym (c .touches .ensures)) ∙ e)
 
 pub is-apart-spec : {M : Type 1} → statement M
 is-apart-spec =

@@ -15,10 +15,10 @@ use Rattle.lawful.proofs.boxes.none_touch.Statement.{statement}
 use Rattle.lawful.proofs.boxes.none_touch.Tie as tie
 
 abbrev Inv-loop : tie.InvT-loop
-Inv-loop cs n i a p j₀ j = ((i < n) × (i < j)) × ((length (cs .rows) ≡ 128) × PartsFit cs) × Inner (cs .rows) n i j a p
+Inv-loop cs n i p j₀ j = ((i < n) × (i < j)) × ((length (cs .rows) ≡ 128) × PartsFit cs) × Inner (cs .rows) n i j p
 
 abbrev μ-loop : tie.MeasureT-loop
-μ-loop cs n i a p j₀ j = n - j
+μ-loop cs n i p j₀ j = n - j
 
 abbrev Inv-walk : tie.InvT-walk
 Inv-walk cs n i₀ i = (i ≤ n) × ((length (cs .rows) ≡ 128) × PartsFit cs) × Outer (cs .rows) n i
@@ -42,9 +42,7 @@ add-j : tie.Need-add-j Inv-loop μ-loop Inv-walk μ-walk
 add-j c = omega arith
 
 loop-holds : tie.Need-loop-holds Inv-loop μ-loop Inv-walk μ-walk
-loop-holds c =
-    let fits = row-fits _ (c .before .before .before .walk .inv .1 .1) (c .before .before .before .walk .inv .1 .0) (c .before .before .walk-test .taken) in
-    ((omega arith, omega arith), c .before .before .before .walk .inv .1, outer-in _ (c .before .before .before .walk .inv .2) fits (c .box-of .ensures) (omega arith) (omega arith))
+loop-holds c = ((omega arith, omega arith), c .before .before .before .walk .inv .1, outer-in _ (c .before .before .before .walk .inv .2) (c .box-of .ensures) (omega arith) (omega arith))
 
 mul-b : tie.Need-mul-b Inv-loop μ-loop Inv-walk μ-walk
 mul-b c = omega arith
@@ -56,7 +54,7 @@ is-far-requires : tie.Need-is-far-requires Inv-loop μ-loop Inv-walk μ-walk
 is-far-requires c κs = search needs
 
 is-apart-requires : tie.Need-is-apart-requires Inv-loop μ-loop Inv-walk μ-walk
-is-apart-requires c κs = let v = c .before .before .before .before .loop .inv in (v .2 .fits, (row-fits _ (v .1 .1) (v .1 .0) (c .before .before .before .loop-test .taken), v .2 .box-is))
+is-apart-requires c κs = let v = c .before .before .before .before .loop .inv in row-fits _ (v .1 .1) (v .1 .0) (c .before .before .before .loop-test .taken)
 
 returns : tie.Need-returns Inv-loop μ-loop Inv-walk μ-walk
 returns c = λ e. absurd (false≢true e)

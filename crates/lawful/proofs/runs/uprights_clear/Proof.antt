@@ -8,15 +8,19 @@ use borrow.Author.Needs.{needs}
 use borrow.Author.Tests.{not-true}
 use Rattle.lists.proofs.Tables.{long}
 use Rattle.lists.proofs.Tests.{clash}
+use Rattle.lawful.specs.Looks.{Chained}
 use Rattle.lawful.proofs.Running.{Running, running-start, running-next, running-end, upright-clear}
 use Rattle.lawful.proofs.runs.uprights_clear.Statement.{statement}
 use Rattle.lawful.proofs.runs.uprights_clear.Tie as tie
 
 abbrev Inv-loop : tie.InvT-loop
-Inv-loop ws js cols n m at₀ last₀ steps₀ i₀ at last steps i = (i ≤ n) × ((length (ws .rows) ≡ 512) × (length (js .rows) ≡ 1408)) × ((length at ≡ 12001) × (length (cols .next) ≡ 1408)) × Running true (take m (js .rows)) (ws .rows) n i last₀ last
+Inv-loop ws js n m cols₀ last₀ steps₀ i₀ cols last steps i = (i ≤ n) × ((length (ws .rows) ≡ 512) × (length (js .rows) ≡ 1408)) × ((length (cols .first) ≡ 12001) × ((length (cols .next) ≡ 1408) × Chained (js .rows) (js .count) (cols .next))) × Running true (take m (js .rows)) (ws .rows) n i last₀ last
 
 abbrev μ-loop : tie.MeasureT-loop
-μ-loop ws js cols n m at₀ last₀ steps₀ i₀ at last steps i = steps
+μ-loop ws js n m cols₀ last₀ steps₀ i₀ cols last steps i = steps
+
+by-column-requires : tie.Need-by-column-requires Inv-loop μ-loop
+by-column-requires c κs = c .pre .1 .0
 
 element-copy-out-last : tie.Need-element-copy-out-last Inv-loop μ-loop
 element-copy-out-last c = omega arith
@@ -25,7 +29,7 @@ add-steps : tie.Need-add-steps Inv-loop μ-loop
 add-steps c = omega arith
 
 loop-holds : tie.Need-loop-holds Inv-loop μ-loop
-loop-holds c = (omega arith, (search long, search long), (search long, search long), running-start _ _ _ _ _)
+loop-holds c = (omega arith, (search long, search long), (search long, (search long, c .before .by-column .ensures)), running-start _ _ _ _ _)
 
 returns : tie.Need-returns Inv-loop μ-loop
 returns c = λ e. absurd (false≢true e)
@@ -54,8 +58,8 @@ column-requires c κs = search needs
 mul-index : tie.Need-mul-index Inv-loop μ-loop
 mul-index c = omega arith
 
-array-read-index : tie.Need-array-read-index Inv-loop μ-loop
-array-read-index c = omega arith
+element-copy-out-index : tie.Need-element-copy-out-index Inv-loop μ-loop
+element-copy-out-index c = omega arith
 
 index-requires : tie.Need-index-requires Inv-loop μ-loop
 index-requires c κs = search needs
@@ -66,8 +70,8 @@ returns-2 c = λ e. absurd (false≢true e)
 mul-index-2 : tie.Need-mul-index-2 Inv-loop μ-loop
 mul-index-2 c = omega arith
 
-element-copy-out-index : tie.Need-element-copy-out-index Inv-loop μ-loop
-element-copy-out-index c = omega arith
+element-copy-out-index-2 : tie.Need-element-copy-out-index-2 Inv-loop μ-loop
+element-copy-out-index-2 c = omega arith
 
 index-requires-2 : tie.Need-index-requires-2 Inv-loop μ-loop
 index-requires-2 c κs = search needs
@@ -98,34 +102,34 @@ loop-less-2 c = omega arith
 
 loop-again-2 : tie.Need-loop-again-2 Inv-loop μ-loop
 loop-again-2 c =
-    let v = c .before .before .before .before .before .before .before .before .before .before .before .before .before .before .before .loop .inv in
-    let js = c .before .before .before .before .before .before .before .before .before .before .before .before .before .before .before .before .before .before .args .t2 in
+    let v = c .before .before .before .before .before .before .before .before .before .before .before .before .before .before .before .before .loop .inv in
+    let js = c .before .before .before .before .before .before .before .before .before .before .before .before .before .before .before .before .before .before .before .args .t2 in
     let size : length (js .rows) ≡ 1408 = v .1 .1 in (
       omega arith,
       v .1,
       v .2,
       running-next _ (v .3)
-          (λ d. upright-clear (js .rows) (js .count) (c .before .before .before .before .before .before .before .before .before .before .before .before .before .before .before .before .before .before .pre .0 .1 .1) (omega arith) _ _ (c .before .before .before .before .before .before .before .before .index .result) (c .before .before .before .before .before .index2 .result) (c .before .before .before .before .before .before .before .before .before .before .before .before .before .before .before .before .before .before .pre .1) (c .before .before .before .before .before .index2 .ensures) (sym (c .before .is-clear .ensures) ∙ c .if5 .taken) (omega arith) (omega arith) d)
+          (λ d. upright-clear (js .rows) (js .count) (c .before .before .before .before .before .before .before .before .before .before .before .before .before .before .before .before .before .before .before .pre .1 .1) (omega arith) _ _ (c .before .before .before .before .before .before .before .before .index .result) (c .before .before .before .before .before .index2 .result) (v .2 .1 .1) (c .before .before .before .before .before .index2 .ensures) (sym (c .before .is-clear .ensures) ∙ c .if5 .taken) (omega arith) (omega arith) d)
           (omega arith) (omega arith),
     )
 
-mul-at : tie.Need-mul-at Inv-loop μ-loop
-mul-at c = omega arith
+mul-cols : tie.Need-mul-cols Inv-loop μ-loop
+mul-cols c = omega arith
 
-element-copy-out-at : tie.Need-element-copy-out-at Inv-loop μ-loop
-element-copy-out-at c = omega arith
+element-copy-out-cols : tie.Need-element-copy-out-cols Inv-loop μ-loop
+element-copy-out-cols c = omega arith
 
-mul-at-2 : tie.Need-mul-at-2 Inv-loop μ-loop
-mul-at-2 c = omega arith
+mul-cols-2 : tie.Need-mul-cols-2 Inv-loop μ-loop
+mul-cols-2 c = omega arith
 
-array-write-at : tie.Need-array-write-at Inv-loop μ-loop
-array-write-at c = omega arith
+element-write-cols : tie.Need-element-write-cols Inv-loop μ-loop
+element-write-cols c = omega arith
 
 loop-less-3 : tie.Need-loop-less-3 Inv-loop μ-loop
 loop-less-3 c = omega arith
 
 loop-again-3 : tie.Need-loop-again-3 Inv-loop μ-loop
-loop-again-3 c = let v = c .before .before .before .before .before .before .before .before .before .before .before .before .before .before .before .before .loop .inv in (omega arith, v .1, (simp length-set (omega arith), v .2 .1), v .3)
+loop-again-3 c = let v = c .before .before .before .before .before .before .before .before .before .before .before .before .before .before .before .before .before .loop .inv in (omega arith, v .1, (simp length-set (omega arith), v .2 .1), v .3)
 
 returns-4 : tie.Need-returns-4 Inv-loop μ-loop
 returns-4 c = λ e. running-end (c .before .loop .inv .3) (omega arith) (omega arith)
@@ -136,6 +140,7 @@ uprights-clear-spec =
     (tie.spec
     Inv-loop
     μ-loop
+    by-column-requires
     element-copy-out-last
     add-steps
     loop-holds
@@ -148,11 +153,11 @@ uprights-clear-spec =
     loop-again
     column-requires
     mul-index
-    array-read-index
+    element-copy-out-index
     index-requires
     returns-2
     mul-index-2
-    element-copy-out-index
+    element-copy-out-index-2
     index-requires-2
     returns-3
     mul-p
@@ -163,10 +168,10 @@ uprights-clear-spec =
     add-i-2
     loop-less-2
     loop-again-2
-    mul-at
-    element-copy-out-at
-    mul-at-2
-    array-write-at
+    mul-cols
+    element-copy-out-cols
+    mul-cols-2
+    element-write-cols
     loop-less-3
     loop-again-3
     returns-4)
