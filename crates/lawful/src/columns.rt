@@ -1,7 +1,6 @@
 // The joints of each column in a row: joint rows rise by y, so the next one in its column is the next one up.
 ghost use mathlib.Core.Path.{_≡_};
 ghost use Prim.Native.Nat.{_≤_, _<_};
-ghost use lib.ListN.{length};
 ghost use Rattle.lawful.specs.Looks.{columnOf, Chained};
 use sheet::Joints;
 

@@ -1,10 +1,10 @@
 // The drawing check, near linear on a lawful drawing: joints are searched for in order and then looked at, and only what is
 // looked at counts. Where anything is off, the plain check names the rule.
-pub mod boxes;
-pub mod columns;
-pub mod listed;
-pub mod order;
-pub mod runs;
+mod boxes;
+mod columns;
+mod listed;
+mod order;
+mod runs;
 
 ghost use mathlib.Core.Path.{_≡_};
 ghost use mathlib.Core.Bool.{true};

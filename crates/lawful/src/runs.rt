@@ -61,7 +61,7 @@ fn index(n: u16) -> usize
     n as usize
 }
 
-// Vertical wires: each column is followed by its own chain, as far as it was looked at.
+// Vertical wires: each column is followed along its own chain, and first tells how far.
 pub fn uprights_clear(ws: Wires, js: Joints) -> bool
     requires { ⌜ (ws .count ≤ 512) × ((js .count ≤ 1408) × Rising (jointRows js)) ⌝ }
     ensures { λ r. ⌜ (r ≡ true → Runs true (jointRows js) (wireRows ws)) ⌝ }
