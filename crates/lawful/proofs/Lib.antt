@@ -1,0 +1,8 @@
+pub mod Walked
+pub mod Rows
+pub mod Ordered
+pub mod Linking
+pub mod Running
+pub mod Seen
+pub mod Touching
+pub mod Sound

@@ -1,0 +1,59 @@
+-- Past the first rule the drawing is within its limits, and what the looks answer is read together.
+use mathlib.Core.Bool.{true, false≢true}
+use mathlib.Core.Path.{_≡_, sym, _∙_}
+use borrow.Author.Tests.{not-false}
+use Rattle.sheet.proofs.Owned.{owned}
+use Rattle.rules.specs.Check.{check1}
+use Rattle.rules.specs.Steps.{Within}
+use Rattle.rules.proofs.Answers.{within}
+use Rattle.lawful.proofs.Sound.{joints-fit, all-sound}
+use borrow.Author.Needs.{needs}
+use Rattle.lawful.proofs.all_right.Statement.{statement}
+use Rattle.lawful.proofs.all_right.Tie as tie
+
+within-limits-requires : tie.Need-within-limits-requires
+within-limits-requires c κs = search needs
+
+limits : (c : tie.After-rows) → check1 (c .before .before .before .before .before .args .d) ≡ true
+limits c = sym (c .before .before .before .before .within-limits .ensures) ∙ not-false _ (c .before .before .before .if1 .left)
+
+rooms : (c : tie.After-rows) → Within (c .before .before .before .before .before .args .d)
+rooms c = within (c .before .before .before .before .before .args .d) (limits c)
+
+returns : tie.Need-returns
+returns c = λ e. absurd (false≢true e)
+
+all-pads-requires : tie.Need-all-pads-requires
+all-pads-requires c κs = rooms c .components
+
+count-joints-requires : tie.Need-count-joints-requires
+count-joints-requires c κs = (rooms (c .before) .wires, c .all-pads .ensures .room)
+
+same-rows-requires : tie.Need-same-rows-requires
+same-rows-requires c κs = (rooms (c .before .before) .joints, joints-fit (c .before .before .before .before .before .before .before .args .d .wires) (c .before .all-pads .result) (rooms (c .before .before) .wires) (c .before .all-pads .ensures .room) (c .count-joints .ensures))
+
+components-rise-requires : tie.Need-components-rise-requires
+components-rise-requires c κs = rooms (c .before .before .before) .components .room
+
+none-touch-requires : tie.Need-none-touch-requires
+none-touch-requires c κs = rooms (c .before .before .before .before) .components
+
+wires-right-requires : tie.Need-wires-right-requires
+wires-right-requires c κs = (rooms (c .before .before .before .before .before) .wires, (c .before .before .before .before .all-pads .ensures .room, c .before .before .before .count-joints .ensures))
+
+returns-2 : tie.Need-returns-2
+returns-2 c = all-sound (c .before .before .before .before .before .before .before .before .before .before .before .args .d) (owned (c .before .before .before .before .before .before .before .before .before .before .before .args .d) _ (c .before .before .before .before .before .before .before .before .before .before .before .good .0 .1 .1)) (limits (c .before .before .before .before .before .before)) (c .before .before .before .before .before .all-pads .result) (c .before .before .before .before .before .all-pads .ensures .points-are) (c .before .before .before .before .count-joints .ensures) (c .before .before .before .same-rows .ensures) (c .before .before .components-rise .ensures) (c .before .none-touch .ensures) (c .wires-right .ensures)
+
+pub all-right-spec : {M : Type 1} → statement M
+all-right-spec =
+    tie.close
+    (tie.spec
+    within-limits-requires
+    returns
+    all-pads-requires
+    count-joints-requires
+    same-rows-requires
+    components-rise-requires
+    none-touch-requires
+    wires-right-requires
+    returns-2)
