@@ -1,4 +1,4 @@
-// Wire ends and pads as keys: y, then x, so that keys rise as points do.
+// Points as keys, and the keys of all wire ends and pads.
 ghost use mathlib.Core.Path.{_≡_};
 ghost use mathlib.Core.List.{[]};
 ghost use Prim.Native.Nat.{_≤_};
@@ -13,8 +13,9 @@ use wires::Points;
 use wires::lines::high_tip;
 use wires::lines::low_tip;
 
-// The key of a point.
-fn key(p: Point) -> u32
+// The key of a point: y, then x, so that keys rise as points do. Not its mirrored point (rows_by_column), nor one key for two points
+// (keys_shared).
+pub fn key(p: Point) -> u32
     ensures { λ r. ⌜ spot r ≡ p ⌝ }
 {
     (p.y as u32) * 65536 + (p.x as u32)

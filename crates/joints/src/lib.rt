@@ -1,5 +1,5 @@
 // The joints of a drawing, counted from its wire ends and pads: each point as one number, sorted, and equal ones gathered.
-mod keys;
+pub mod keys;
 mod rows;
 mod sort;
 pub mod tally;

@@ -9,6 +9,8 @@ use redraw::Edited;
 use sheet::Drawing;
 use sheet::Tally;
 
+// "Wire.", as `schematic::add_wire`; the tally "is brought up to date in its place". Two wrong answers that this
+// rules out: a wire from its end to its start (wire_backward), and the lent tally as it was after reply 0 (never_written).
 pub fn add_wire(
     d: Drawing,
     vertical: bool,
@@ -26,6 +28,8 @@ pub fn add_wire(
     e
 }
 
+// "Place.", as `schematic::add_component`; the tally "is brought up to date in its place". Two wrong answers that this
+// rules out: the lent tally as it was after reply 0 (never_written), and the lent tally written after a refusal (written_after_a_refusal).
 pub fn add_component(
     d: Drawing,
     kind: u8,
@@ -44,6 +48,8 @@ pub fn add_component(
     e
 }
 
+// "Delete.", as `schematic::delete_at_point`; the tally "is brought up to date in its place". Two wrong answers that this
+// rules out: the lent tally as it was after reply 0 (never_written), and the lent tally written after a refusal (written_after_a_refusal).
 pub fn delete_at_point(d: Drawing, x: i32, y: i32, size: i32, t: &mut Tally) -> Edited
     ensures { λ r. ⌜ (r ≡ checked d (now (t .entry)) (Calls.deleteAt d x y size (now (t .entry)))) × (now (t .exit) ≡ noted (now (t .entry)) r) ⌝ }
 {
@@ -54,6 +60,8 @@ pub fn delete_at_point(d: Drawing, x: i32, y: i32, size: i32, t: &mut Tally) -> 
     e
 }
 
+// "Turn right, mirror.", as `schematic::rotate_component_at_point`; the tally "is brought up to date in its place". Two wrong answers that this
+// rules out: the lent tally as it was after reply 0 (never_written), and the lent tally written after a refusal (written_after_a_refusal).
 pub fn rotate_component_at_point(d: Drawing, x: i32, y: i32, size: i32, t: &mut Tally) -> Edited
     ensures { λ r. ⌜ (r ≡ checked d (now (t .entry)) (Calls.rotateAt d x y size (now (t .entry)))) × (now (t .exit) ≡ noted (now (t .entry)) r) ⌝ }
 {
@@ -64,6 +72,8 @@ pub fn rotate_component_at_point(d: Drawing, x: i32, y: i32, size: i32, t: &mut 
     e
 }
 
+// "Turn right, mirror.", as `schematic::mirror_component_at_point`; the tally "is brought up to date in its place". Two wrong answers that this
+// rules out: the lent tally as it was after reply 0 (never_written), and the lent tally written after a refusal (written_after_a_refusal).
 pub fn mirror_component_at_point(d: Drawing, x: i32, y: i32, size: i32, t: &mut Tally) -> Edited
     ensures { λ r. ⌜ (r ≡ checked d (now (t .entry)) (Calls.mirrorAt d x y size (now (t .entry)))) × (now (t .exit) ≡ noted (now (t .entry)) r) ⌝ }
 {

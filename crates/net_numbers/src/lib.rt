@@ -8,9 +8,9 @@ ghost use Rattle.sheet.specs.Drawings.{wireRows, componentRows, jointRows, list
 ghost use Rattle.sheet.specs.Rules.{Lawful};
 ghost use Rattle.wires.specs.Tables.{pointRows};
 ghost use Rattle.parts.specs.Tables.{TabledParts};
-ghost use Rattle.joints.specs.Keys.{spot};
 ghost use Rattle.net_numbers.specs.Netted.{isPower, netNumbers};
 ghost use Rattle.net_numbers.specs.Found.{Ascending, PlaceOf, NumberAt, KeysOf, Jointed, LinksIn, PadsIn};
+use joints::keys::key;
 use nets::Link;
 use nets::Links;
 use nets::Pads;
@@ -25,13 +25,6 @@ use symbol::Point;
 use wires::Points;
 use wires::lines::high_tip;
 use wires::lines::low_tip;
-
-// The key of a point: y, then x, so that keys rise as points do.
-fn key(p: Point) -> u32
-    ensures { λ r. ⌜ spot r ≡ p ⌝ }
-{
-    (p.y as u32) * 65536 + (p.x as u32)
-}
 
 // The key of each joint, in row order.
 fn joint_keys(js: Joints) -> [u32; 1408]

@@ -15,11 +15,6 @@ use Rattle.sheet.specs.declared.Components.{Components}
 use Rattle.sheet.specs.Drawings.{componentRows}
 use Rattle.netlist.specs.Listing.{relay, switch, Entry, entry, padsIn, linesOf, linesIn, linesFrom, nth}
 
-pub one-pad : (k : ℕ) → (k ≡ 1 → ⊥) → (1 ≡ padsIn k) × (1 ≤ 3)
-one-pad zero h = (refl, omega arith)
-one-pad (suc zero) h = absurd (h refl)
-one-pad (suc (suc k)) h = (refl, omega arith)
-
 none-of : (l : List ℕ) (n a b k : ℕ) → (k ≡ 1 → ⊥) → (k ≡ 2 → ⊥) → linesOf k l n a b ≡ []
 unfolding linesOf
 none-of l n a b zero f g = refl

@@ -11,6 +11,7 @@ use Rattle.netlist.specs.declared.Listed.{Listed}
 use Rattle.netlist.specs.declared.LooseCount.{LooseCount}
 use Rattle.netlist.specs.Listing.{listOf, looseOf}
 
+-- a reply, and how many bytes of the lent buffer are the list
 abbrev pub listed : ℕ → ℕ → Listed
 listed reply length = record { reply = reply; length = length }
 
@@ -24,14 +25,18 @@ bufferOf list old = cond (leb (length list) (length old)) (list ++ drop (length 
 
 -- ---- the calls: "9: the lent drawing isn't lawful" comes before 8
 
+-- the answer for a lent buffer of that many bytes: 9, 8, or 0 with the length of the list; "A refusal tells length 0."
 unfoldable pub netlistOf : Drawing → ℕ → Listed
 netlistOf d room = cond (lawful d) (answerOf (listOf (listsOf d)) room) (listed 9 0)
 
+-- what the lent buffer then holds; after 9 or 8 "tally and buffer keep their old content"
 unfoldable pub netlistIn : Drawing → List ℕ → List ℕ
 netlistIn d old = cond (lawful d) (bufferOf (listOf (listsOf d)) old) old
 
+-- a reply, and the number of loose points
 abbrev pub counted : ℕ → ℕ → LooseCount
 counted reply count = record { reply = reply; count = count }
 
+-- 9 and no count, or how many points are loose: "a loose point is a joint whose count is 1"
 unfoldable pub looseAnswer : Drawing → LooseCount
 looseAnswer d = cond (lawful d) (counted 0 (looseOf (listsOf d))) (counted 9 0)

@@ -88,7 +88,8 @@ pub fn loose_on(d: Drawing) -> u32
     count_loose(js)
 }
 
-// The wiring list of a lent drawing, written in front of the lent buffer.
+// The wiring list of a lent drawing, written in front of the lent buffer; "bytes behind it stay". 9, 8 or 0. Two wrong answers that this
+// rules out: a drawing that is not lawful listed (unlawful_listed), and a length told with a refusal (length_on_refusal).
 pub fn build_netlist(d: Drawing, out: &mut [u8]) -> Listed
     ensures told { λ r. ⌜ r ≡ netlistOf d (length (now (out .entry))) ⌝ }
     ensures written { λ _. ⌜ now (out .exit) ≡ netlistIn d (now (out .entry)) ⌝ }
@@ -103,7 +104,8 @@ pub fn build_netlist(d: Drawing, out: &mut [u8]) -> Listed
     write_list_on(d, out)
 }
 
-// The number of loose points of a lent drawing.
+// The number of loose points of a lent drawing: joints "whose count is 1". 9 or 0. Two wrong answers that this rules out: corners counted
+// (corners_loose), and a count for a drawing that is not lawful (loose_unlawful).
 pub fn loose(d: Drawing) -> LooseCount
     ensures { λ r. ⌜ r ≡ looseAnswer d ⌝ }
 {

@@ -1,11 +1,11 @@
 // The lines of the list.
 ghost use mathlib.Core.List.{map};
-ghost use mathlib.Core.Path.{_≡_};
 ghost use Prim.Native.Nat.{_≤_};
 ghost use Rattle.sheet.specs.Drawings.{componentRows};
 ghost use Rattle.text.specs.Text.{Put, Room};
-ghost use Rattle.netlist.specs.Listing.{netWord, pinWord, relay, switch, entry, linesIn, linesFrom, nth, padsIn};
+ghost use Rattle.netlist.specs.Listing.{netWord, pinWord, relay, switch, entry, linesIn, linesFrom, nth};
 use label::label_part;
+use parts::pads::pads_of_kind;
 use sheet::Component;
 use sheet::Components;
 use text::put_byte;
@@ -77,16 +77,6 @@ fn put_part(out: &mut [u8], at: usize, c: Component, kind: u8, n: u16, a: u16, b
     at
 }
 
-// How many pads a kind has.
-fn pads_in(kind: u8) -> usize
-    ensures { λ r. ⌜ (r ≡ padsIn kind) × (r ≤ 3) ⌝ }
-{
-    if kind == 1 {
-        return 3;
-    }
-    1
-}
-
 // The lines of all components of one kind, in row order.
 pub(crate) fn put_lines(
     out: &mut [u8],
@@ -113,7 +103,7 @@ pub(crate) fn put_lines(
             numbers[pad + 1],
             numbers[pad + 2],
         );
-        pad += pads_in(c.kind);
+        pad += pads_of_kind(c.kind);
         i += 1;
     }
     next

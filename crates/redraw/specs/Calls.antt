@@ -37,12 +37,15 @@ done o = record { reply = 0; tally = tallyOf (o .sheet); drawing = drawn (o .she
 unfoldable pub edited : Drawing → Tally → Outcome → Edited
 edited d t o = unless (roomy (o .sheet)) 7 d t (done o)
 
+-- "Wire.": 1 "a coordinate outside its range", 2 "wire start greater than its end", then the edit
 unfoldable pub addWire : Drawing → Bool → ℤ → ℤ → ℤ → Tally → Edited
 addWire d vertical line start end t =
     unless (ranged 6000 line && (ranged 6000 start && ranged 6000 end)) 1 d t
     (unless (leZ start end) 2 d t
     (edited d t (quiet (wire (wireAt vertical line start end) (listsOf d)))))
 
+-- "Place.": 4 "unknown kind, or not one of the eight orientations", 1, 5 "label too long or with another byte", 6 "the new component's box
+-- shares a point with a placed one", then the edit
 unfoldable pub addComponent : Drawing → ℕ → RotMirror → ℤ → ℤ → Label → Tally → Edited
 addComponent d kind o x y label t =
     let c = componentAt kind o x y label in
@@ -59,11 +62,14 @@ pointed d x y size t edit =
     (unless (eqb (sizedReply (sizeOf size)) 0) 3 d t
     (edited d t (edit (pointAt x y) (toℕ size))))
 
+-- "Delete."; "Hit and lost are 0 for wire, place and delete."
 unfoldable pub deleteAt : Drawing → ℤ → ℤ → ℤ → Tally → Edited
 deleteAt d x y size t = pointed d x y size t (λ p n. quiet (delete p n (listsOf d)))
 
+-- "Turn right, mirror.", the turn; "The reply tells how many were hit and how many of these are gone afterwards."
 unfoldable pub rotateAt : Drawing → ℤ → ℤ → ℤ → Tally → Edited
 rotateAt d x y size t = pointed d x y size t (λ p n. turnRight p n (listsOf d))
 
+-- "Turn right, mirror.", the mirror, with the same reply
 unfoldable pub mirrorAt : Drawing → ℤ → ℤ → ℤ → Tally → Edited
 mirrorAt d x y size t = pointed d x y size t (λ p n. mirror p n (listsOf d))

@@ -13,7 +13,8 @@ use parts::touch::touches_any;
 use sheet::Drawing;
 use sheet::Tally;
 
-// It is refused where its box shares a point with a placed one.
+// "Place." Two wrong answers that this rules out: a component acknowledged and not placed (component_only_acknowledged), and 7 for one
+// whose box shares a point with a placed one (six_told_as_seven).
 pub fn add_component_on(
     d: Drawing,
     kind: u8,

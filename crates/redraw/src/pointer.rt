@@ -20,6 +20,7 @@ use sheet::Tally;
 use sheet::Wires;
 use symbol::Point;
 
+// What becomes of that which the square meets.
 pub enum Act {
     Delete,
     TurnRight,
@@ -52,6 +53,8 @@ fn act_on(d: Drawing, act: Act, x: i32, y: i32, size: i32, t: Tally) -> Edited
     finished(d, t, e)
 }
 
+// "Delete." Two wrong answers that this rules out: contacts turned and all else left (delete_turns), and a square about (y, x)
+// (pointer_mirrored).
 pub fn delete_on(d: Drawing, x: i32, y: i32, size: i32, t: Tally) -> Edited
     requires { ⌜ Lawful d ⌝ }
     ensures { λ r. ⌜ r ≡ Calls.deleteAt d x y size t ⌝ }
@@ -59,6 +62,8 @@ pub fn delete_on(d: Drawing, x: i32, y: i32, size: i32, t: Tally) -> Edited
     act_on(d, Act::Delete, x, y, size, t)
 }
 
+// "Turn right, mirror.", the turn. Two wrong answers that this rules out: as many told as hit as were lost (hit_invented), and as many told as lost as were
+// hit (lost_invented).
 pub fn rotate_on(d: Drawing, x: i32, y: i32, size: i32, t: Tally) -> Edited
     requires { ⌜ Lawful d ⌝ }
     ensures { λ r. ⌜ r ≡ Calls.rotateAt d x y size t ⌝ }
@@ -66,6 +71,8 @@ pub fn rotate_on(d: Drawing, x: i32, y: i32, size: i32, t: Tally) -> Edited
     act_on(d, Act::TurnRight, x, y, size, t)
 }
 
+// "Turn right, mirror.", the mirror. Two wrong answers that this rules out: contacts turned right (mirror_turns), and the drawing received with reply 0
+// (drawing_untouched).
 pub fn mirror_on(d: Drawing, x: i32, y: i32, size: i32, t: Tally) -> Edited
     requires { ⌜ Lawful d ⌝ }
     ensures { λ r. ⌜ r ≡ Calls.mirrorAt d x y size t ⌝ }

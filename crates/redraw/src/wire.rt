@@ -10,7 +10,8 @@ use edits::draw::draw;
 use sheet::Drawing;
 use sheet::Tally;
 
-// vertical: line is its x, start and end are its y; else the other way round.
+// "Wire."; vertical: line is its x, start and end are its y; else the other way round. Two wrong answers that this rules out: a wire
+// acknowledged and not drawn (wire_only_acknowledged), and 2 where a coordinate is outside its range (two_before_one).
 pub fn add_wire_on(d: Drawing, vertical: bool, line: i32, start: i32, end: i32, t: Tally) -> Edited
     requires { ⌜ Lawful d ⌝ }
     ensures { λ r. ⌜ r ≡ Calls.addWire d vertical line start end t ⌝ }

@@ -16,7 +16,8 @@ use redraw::wire::add_wire_on;
 use sheet::Drawing;
 use sheet::Tally;
 
-// A new wire; vertical: line is its x, start and end are its y, else the other way round. 9, 1, 2 or 7.
+// "Wire.": a new wire; vertical: line is its x, start and end are its y, else the other way round. 9, 1, 2 or 7. Two wrong answers that
+// this rules out: a wire from its end to its start (wire_backward), and a drawing that is not lawful edited (unlawful_edited).
 pub fn add_wire(d: Drawing, vertical: bool, line: i32, start: i32, end: i32, t: Tally) -> Edited
     ensures { λ r. ⌜ r ≡ checked d t (Calls.addWire d vertical line start end t) ⌝ }
 {
@@ -27,7 +28,8 @@ pub fn add_wire(d: Drawing, vertical: bool, line: i32, start: i32, end: i32, t: 
     add_wire_on(d, vertical, line, start, end, t)
 }
 
-// A new component. 9, 4, 1, 5, 6 or 7.
+// "Place.": a new component. 9, 4, 1, 5, 6 or 7. Two wrong answers that this rules out: one placed at (y, x) (component_elsewhere), and 4
+// for a drawing that is not lawful (nine_told_as_four).
 pub fn add_component(
     d: Drawing,
     kind: u8,
@@ -46,7 +48,8 @@ pub fn add_component(
     add_component_on(d, kind, rot_mirror, x, y, label, t)
 }
 
-// All that the square of half-width size about (x, y) meets is gone. 9, 1 or 3.
+// "Delete.": all that the square of half-width size about (x, y) meets is gone. 9, 1 or 3. Two wrong answers that this rules out: a delete
+// about (y, x) (delete_elsewhere), and a drawing that is not lawful edited (unlawful_edited).
 pub fn delete_at_point(d: Drawing, x: i32, y: i32, size: i32, t: Tally) -> Edited
     ensures { λ r. ⌜ r ≡ checked d t (Calls.deleteAt d x y size t) ⌝ }
 {
@@ -57,7 +60,9 @@ pub fn delete_at_point(d: Drawing, x: i32, y: i32, size: i32, t: Tally) -> Edite
     delete_on(d, x, y, size, t)
 }
 
-// The contacts that the square meets are turned right, and those that would then touch a component are lost. 9, 1, 3 or 7.
+// "Turn right, mirror.": the contacts that the square meets are turned right, and those that would then touch a component are lost. 9, 1,
+// 3 or 7. Two wrong answers that this rules out: a turn about (y, x) (turn_elsewhere), and a drawing that is not lawful edited
+// (unlawful_edited).
 pub fn rotate_component_at_point(d: Drawing, x: i32, y: i32, size: i32, t: Tally) -> Edited
     ensures { λ r. ⌜ r ≡ checked d t (Calls.rotateAt d x y size t) ⌝ }
 {
@@ -68,7 +73,8 @@ pub fn rotate_component_at_point(d: Drawing, x: i32, y: i32, size: i32, t: Tally
     rotate_on(d, x, y, size, t)
 }
 
-// The contacts that the square meets are mirrored. 9, 1, 3 or 7.
+// "Turn right, mirror.": the contacts that the square meets are mirrored, lost as in a turn. 9, 1, 3 or 7. Two wrong answers that this
+// rules out: a mirror about (y, x) (mirror_elsewhere), and a drawing that is not lawful edited (unlawful_edited).
 pub fn mirror_component_at_point(d: Drawing, x: i32, y: i32, size: i32, t: Tally) -> Edited
     ensures { λ r. ⌜ r ≡ checked d t (Calls.mirrorAt d x y size t) ⌝ }
 {

@@ -23,8 +23,9 @@ wire n s = record { wires = drawWire n (s .wires) (padsOf (s .parts)); parts = s
 unfoldable pub place : Component → Sheet → Sheet
 place c s = record { wires = splitAll (pads c) (s .wires); parts = insert ahead c (s .parts) }
 
--- without the wires that f meets and the components that g meets; "a point that falls .. to exactly two wire ends in line,
--- without a pad, becomes one wire. A corner does not."
+-- without the wires that f meets and the components that g meets; "A point that falls from 3 or more to exactly two wire ends in line,
+-- without a pad, becomes one wire. A corner does not." That 3 or more stood there is not tested: where wires of a lawful drawing are
+-- left that go on in line, it always holds (proofs/MergeCount: fell).
 unfoldable pub remove : (Wire → Bool) → (Component → Bool) → Sheet → Sheet
 remove f g s =
     let ws = keep (λ w. not (f w)) (s .wires) in

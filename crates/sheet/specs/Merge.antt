@@ -1,4 +1,5 @@
--- Merging: exactly two wire ends in line without a pad become one wire.
+-- Merging (document 01, "Edits", "Delete."): "A point that falls from 3 or more to exactly two wire ends in line, without a pad, becomes
+-- one wire. A corner does not."
 use mathlib.Core.Bool.{Bool, _&&_, _||_, cond, not, Bool·beq}
 use mathlib.Core.List.{List, [], _∷_}
 use lib.Dec.{eqb}
@@ -8,15 +9,15 @@ use Rattle.lists.specs.Lists.{any}
 use Rattle.sheet.specs.Points.{same}
 use Rattle.sheet.specs.Lines.{tip, low, high}
 
--- the test for `Held`
+-- the test for `Held`: the point has more than "exactly two wire ends in line, without a pad", namely an end of the other direction or a pad
 unfoldable pub held : List Wire → List Point → Bool → Point → Bool
 held ws ps d p = any (λ w. Bool·beq (w .vertical) (not d) && (same p (tip low w) || same p (tip high w))) ws || any (same p) ps
 
--- b goes on in line where a ends, and h does not hold them apart
+-- "two wire ends in line": b goes on in line where a ends, and h does not hold them apart; "A corner does not"
 unfoldable pub joins : (Bool → Point → Bool) → Wire → Wire → Bool
 joins h a b = Bool·beq (a .vertical) (b .vertical) && (eqb (a .line) (b .line) && (eqb (a .end) (b .start) && not (h (a .vertical) (tip high a))))
 
--- from a's start to b's end
+-- "becomes one wire": from a's start to b's end
 abbrev pub join : Wire → Wire → Wire
 join a b = record { vertical = a .vertical; line = a .line; start = a .start; end = b .end }
 
@@ -30,7 +31,9 @@ unfoldable pub mergeBy : (Bool → Point → Bool) → List Wire → List Wire
 mergeBy h [] = []
 mergeBy h (w ∷ ws) = glue h w (mergeBy h ws)
 
--- all wires joined that no crossing end and no pad holds apart
+-- "exactly two wire ends in line, without a pad, becomes one wire": all wires joined that no crossing end and no pad holds apart. The
+-- wires of a lawful drawing stay as they are (proofs/Merge: merge-same), so that a delete far away joins nothing; and where what is kept
+-- of them joins, the point falls "from 3 or more" (proofs/MergeCount: fell).
 unfoldable pub merge : List Wire → List Point → List Wire
 merge ws ps = mergeBy (held ws ps) ws
 

@@ -1,4 +1,4 @@
--- Splitting wires at points.
+-- Splitting wires at points (document 01, "Edits", "Wire." and "Place.").
 use mathlib.Core.Bool.{cond}
 use mathlib.Core.List.{List, [], _∷_}
 use Rattle.sheet.specs.declared.Wire.{Wire}
@@ -14,15 +14,15 @@ left p w = record { vertical = w .vertical; line = w .line; start = w .start; en
 abbrev pub right : Point → Wire → Wire
 right p w = record { vertical = w .vertical; line = w .line; start = along (w .vertical) p; end = w .end }
 
--- the wire is split if the point lies strictly inside
+-- "strictly inside": a point there splits the wire, an end of it does not
 unfoldable pub splitOne : Point → Wire → List Wire
 splitOne p w = cond (inside p w) (left p w ∷ right p w ∷ []) (w ∷ [])
 
--- each wire is split that has the point strictly inside
+-- "Each pad splits each wire that it lies strictly inside"; an end as drawn splits "each crossing wire that has that end strictly inside"
 unfoldable pub splitAt : Point → List Wire → List Wire
 splitAt p ws = gather (splitOne p) ws
 
--- each point splits in turn
+-- "Each pad splits", "At the two ends as drawn, split", "Cut the run at each joint": the points one after the other
 unfoldable pub splitAll : List Point → List Wire → List Wire
 splitAll [] ws = ws
 splitAll (p ∷ ps) ws = splitAll ps (splitAt p ws)

@@ -59,11 +59,11 @@ put-part-requires c κs =
     let s = c .before .before .before .before .before in
     omega (arith, l .inv .4 .behind, s .pre .1, lines-part (s .args .t3) (nth (s .args .t4)) (s .args .kind) (l .pad) (l .i) (omega (arith, s .pre .0, l .inv .1)) blank (c .before .before .loop-test .taken))
 
-pads-in-requires : tie.Need-pads-in-requires Inv-loop μ-loop
-pads-in-requires c κs = tt
+pads-of-kind-requires : tie.Need-pads-of-kind-requires Inv-loop μ-loop
+pads-of-kind-requires c κs = tt
 
 add-pad : tie.Need-add-pad Inv-loop μ-loop
-add-pad c = omega (arith, c .pads-in .ensures .1)
+add-pad c = omega (arith, c .pads-of-kind .ensures .1)
 
 add-i : tie.Need-add-i Inv-loop μ-loop
 add-i c = omega arith
@@ -78,9 +78,9 @@ loop-again c =
     let p = c .before .before .before .put-part in (
       omega arith,
       l .inv .1,
-      omega (arith, c .pads-in .ensures .1),
+      omega (arith, c .pads-of-kind .ensures .1),
       p .kept .0 ∙ l .inv .3,
-      todo-step (l .inv .4) (lines-step (s .args .t3) (nth (s .args .t4)) (s .args .kind) (l .pad) (l .i) (omega (arith, s .pre .0, l .inv .1)) blank (c .before .before .before .before .before .before .loop-test .taken) (c .pads-in .ensures .0)) (p .ensures),
+      todo-step (l .inv .4) (lines-step (s .args .t3) (nth (s .args .t4)) (s .args .kind) (l .pad) (l .i) (omega (arith, s .pre .0, l .inv .1)) blank (c .before .before .before .before .before .before .loop-test .taken) (c .pads-of-kind .ensures .0)) (p .ensures),
     )
 
 same-length : tie.Need-same-length Inv-loop μ-loop
@@ -110,7 +110,7 @@ put-lines-spec =
     mul-put-part-3
     array-read-put-part-3
     put-part-requires
-    pads-in-requires
+    pads-of-kind-requires
     add-pad
     add-i
     loop-less
