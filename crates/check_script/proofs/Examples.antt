@@ -9,7 +9,7 @@ use Rattle.script.specs.Grammar.{bytes}
 use Rattle.script.specs.Reading.{digitsOf, wholeOf, signedOf, numberOf, fieldOf}
 use Rattle.check_script.specs.declared.Said.{Said}
 use Rattle.check_script.specs.declared.Said.the-variants.{Wire, Component, Joint, WireCount, ComponentCount, JointCount, End, Unreadable}
-use Rattle.check_script.specs.Reading.{between, heldOf, turnOf, letterOf, directionOf, wireOf, jointOf, labelled, standsOf, componentOf, rowOf, countedOf, countOf, lineOf, saidOf}
+use Rattle.check_script.specs.Reading.{fitted, heldOf, turnOf, letterOf, directionOf, wireOf, jointOf, labelled, standsOf, componentOf, rowOf, countedOf, countOf, lineOf, saidOf}
 
 examples : List (String × Said)
 examples =
@@ -47,5 +47,5 @@ examples =
     ∷ []
 
 read : map (λ e. saidOf (bytes (e .0))) examples ≡ map (λ e. e .1) examples
-unfolding examples digitsOf wholeOf signedOf numberOf fieldOf biased between heldOf turnOf letterOf directionOf wireOf jointOf labelled standsOf componentOf rowOf countedOf countOf lineOf saidOf
+unfolding examples digitsOf wholeOf signedOf numberOf fieldOf biased fitted heldOf turnOf letterOf directionOf wireOf jointOf labelled standsOf componentOf rowOf countedOf countOf lineOf saidOf
 read = refl

@@ -21,7 +21,7 @@ use Rattle.check_script.specs.declared.Said.the-variants.{Wire, Componen
 use Rattle.check_script.specs.Counts.{Table, wires, components, joints}
 use Rattle.check_script.specs.Grammar as g
 use Rattle.check_script.specs.Grammar.{IsHeld, IsSign, Direction, horizontal, vertical, IsRow, IsLine, Says, readable, unreadable}
-use Rattle.check_script.specs.Reading.{between, heldOf, coordinateOf, naturalOf, signOf, turnOf, ending, letterOf, directionOf, wireOf, jointOf, labelled, standsOf, componentOf, rowOf, countedOf, countOf, lineOf, saidOf}
+use Rattle.check_script.specs.Reading.{fitted, heldOf, coordinateOf, naturalOf, signOf, turnOf, ending, letterOf, directionOf, wireOf, jointOf, labelled, standsOf, componentOf, rowOf, countedOf, countOf, lineOf, saidOf}
 
 -- ---- the parts
 
@@ -33,8 +33,8 @@ module _ {A : Type 0} (low high : ℕ) (f : ℤ → A) where
   held-by : (C : Found A → Type 0) (s : List ℕ) → ((t rest : List ℕ) (a : A) → IsHeld low high f t a → s ≡ byte " " ∷ (t ++ rest) → C (found a rest)) → C missing → C (heldOf low high f s)
   unfolding heldOf
   held-by C s is not =
-      field-by (λ r. C (then r (λ z t. cond (between low high z) (found (f z) t) missing) missing)) s
-      (λ t rest z n e. by-test C (between low high z) (λ q. is t rest (f z) (g.holds n q) e) not) not
+      field-by (λ r. C (then r (λ z t. cond (fitted low high z) (found (f z) t) missing) missing)) s
+      (λ t rest z n e. by-test C (fitted low high z) (λ q. is t rest (f z) (g.holds n q) e) not) not
 
   held-is : {rest t : List ℕ} {a : A} → Stops rest → IsHeld low high f t a → heldOf low high f (byte " " ∷ (t ++ rest)) ≡ found a rest
   unfolding heldOf

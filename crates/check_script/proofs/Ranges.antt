@@ -15,24 +15,24 @@ use Rattle.edge.specs.Coordinates.{toℕ, biased}
 use Rattle.edge.proofs.Whole.{sub-pos}
 use Rattle.script.specs.Reading.{Found, found, missing, fieldOf}
 use Rattle.script.proofs.Signs.{back}
-use Rattle.check_script.specs.Reading.{between, heldOf}
+use Rattle.check_script.specs.Reading.{fitted, heldOf}
 
 -- ---- the tests
 
-too-low : (low high : ℕ) (z : ℤ) → ltZ z (negℤ (pos low)) ≡ true → between low high z ≡ false
-unfolding between
+too-low : (low high : ℕ) (z : ℤ) → ltZ z (negℤ (pos low)) ≡ true → fitted low high z ≡ false
+unfolding fitted
 too-low zero high (pos n) e = absurd (let h = ltb-true n 0 e in let z : ⊥ = omega arith in z)
 too-low (suc k) high (pos n) e = absurd (subst T (sym e) tt)
 too-low zero high (negsuc n) e = le-ltb n 0 (omega arith)
 too-low (suc k) high (negsuc n) e = le-ltb n (suc k) (let h = ltb-true k n e in omega arith)
 
-too-high : (low high : ℕ) (z : ℤ) → ltZ (pos high) z ≡ true → between low high z ≡ false
-unfolding between
+too-high : (low high : ℕ) (z : ℤ) → ltZ (pos high) z ≡ true → fitted low high z ≡ false
+unfolding fitted
 too-high low high (pos n) e = lt-leb n high (ltb-true high n e)
 too-high low high (negsuc n) e = absurd (subst T (sym e) tt)
 
-between : (low high : ℕ) (z : ℤ) → ltZ z (negℤ (pos low)) ≡ false → ltZ (pos high) z ≡ false → between low high z ≡ true
-unfolding between
+between : (low high : ℕ) (z : ℤ) → ltZ z (negℤ (pos low)) ≡ false → ltZ (pos high) z ≡ false → fitted low high z ≡ true
+unfolding fitted
 between low high (pos n) e g = le-leb n high (ltb-false high n g)
 between zero high (negsuc n) e g = absurd (subst T e tt)
 between (suc k) high (negsuc n) e g = lt-ltb n (suc k) (let h = ltb-false k n e in omega arith)
@@ -59,8 +59,8 @@ module _ {A : Type 0} (low high : ℕ) (f : ℤ → A) (s : List ℕ) where
 
 -- ---- a coordinate, with 6,000 added
 
-lifted : (z : ℤ) → between 6000 59535 z ≡ true → (z +ℤ pos 6000 ≡ pos (biased z)) × (biased z ≤ 65535)
-unfolding between biased
+lifted : (z : ℤ) → fitted 6000 59535 z ≡ true → (z +ℤ pos 6000 ≡ pos (biased z)) × (biased z ≤ 65535)
+unfolding fitted biased
 lifted (pos n) r = let h = leb-true n 59535 r in (refl, omega arith)
 lifted (negsuc n) r =
     let h = ltb-true n 6000 r in
@@ -89,8 +89,8 @@ module _ (z : ℤ) (m : mag z < 2 ^ 31) (l : ltZ (toZ w32 (ofZ w32 z)) (negℤ (
 
 -- ---- a number that is not negative
 
-whole : (z : ℤ) → between 0 65535 z ≡ true → T (nonNeg z) × (natAbs z ≡ toℕ z) × (natAbs z ≤ 65535)
-unfolding between
+whole : (z : ℤ) → fitted 0 65535 z ≡ true → T (nonNeg z) × (natAbs z ≡ toℕ z) × (natAbs z ≤ 65535)
+unfolding fitted
 whole (pos n) r = (tt, refl, leb-true n 65535 r)
 whole (negsuc n) r = absurd (let h = ltb-true n 0 r in let y : ⊥ = omega arith in y)
 
@@ -106,8 +106,8 @@ module _ (z : ℤ) (m : mag z < 2 ^ 31) (l : ltZ (toZ w32 (ofZ w32 z)) (pos 0) �
 
 -- ---- a number of 8 bits with its sign
 
-small : (z : ℤ) → between 128 127 z ≡ true → SFits w8 z
-unfolding between
+small : (z : ℤ) → fitted 128 127 z ≡ true → SFits w8 z
+unfolding fitted
 small (pos n) r = let h = leb-true n 127 r in record { sfits = omega arith }
 small (negsuc n) r = let h = ltb-true n 128 r in record { sfits = omega arith }
 

@@ -11,11 +11,11 @@ use Rattle.script.specs.Grammar.{byte, bytes, IsNumber, _␣_, Label}
 use Rattle.check_script.specs.declared.Said.{Said}
 use Rattle.check_script.specs.declared.Said.the-variants.{Wire, Component, Joint, End, Unreadable}
 use Rattle.check_script.specs.Counts.{Table}
-use Rattle.check_script.specs.Reading.{between}
+use Rattle.check_script.specs.Reading.{fitted}
 
 -- a number from −low to high, as f has it
 pub data IsHeld {A : Type 0} (low high : ℕ) (f : ℤ → A) : List ℕ → A → Type 0 where
-  holds : {t : List ℕ} {z : ℤ} → IsNumber t z → between low high z ≡ true → IsHeld low high f t (f z)
+  holds : {t : List ℕ} {z : ℤ} → IsNumber t z → fitted low high z ≡ true → IsHeld low high f t (f z)
 
 abbrev pub IsCoordinate : List ℕ → ℕ → Type 0
 IsCoordinate t n = IsHeld 6000 59535 biased t n

@@ -15,13 +15,13 @@ use Rattle.check_script.specs.declared.Said.the-variants.{Wire, Componen
 -- ---- numbers that a row can hold
 
 -- from −low to high
-unfoldable pub between : ℕ → ℕ → ℤ → Bool
-between low high (pos n) = leb n high
-between low high (negsuc n) = ltb n low
+unfoldable pub fitted : ℕ → ℕ → ℤ → Bool
+fitted low high (pos n) = leb n high
+fitted low high (negsuc n) = ltb n low
 
 -- a space and such a number, as f has it
 unfoldable pub heldOf : {A : Type 0} → ℕ → ℕ → (ℤ → A) → List ℕ → Found A
-heldOf low high f s = then (fieldOf s) (λ z t. cond (between low high z) (found (f z) t) missing) missing
+heldOf low high f s = then (fieldOf s) (λ z t. cond (fitted low high z) (found (f z) t) missing) missing
 
 -- a coordinate: 6,000 more, in 16 bits
 abbrev pub coordinateOf : List ℕ → Found ℕ
