@@ -23,7 +23,7 @@ use Rattle.redraw.specs.Calls as Calls
 use Rattle.schematic.specs.Calls.{checked}
 use Rattle.nets.specs.Numbers.{merged, netFrom, startOf, netOf, rank, meet, numberFrom, numbering, numbersOf}
 use Rattle.net_numbers.specs.Netted.{numberIn, netNumbers}
-use Rattle.netlist.specs.Listing.{netWord, pinWord, relay, switch, linesOf, linesIn, linesFrom, listWith, listOf, looseIn, looseOf}
+use Rattle.netlist.specs.Listing.{netWord, pinWord, relay, switch, entryLines, linesIn, kindLines, listWith, listOf, looseIn, looseOf}
 use Rattle.netlist.specs.Answers.{netlistOf, netlistIn, looseAnswer, answerOf, bufferOf}
 use Rattle.text.specs.Text.{digitsIn, decimalOf, signedOf}
 use Rattle.script.specs.Reading as Reading
@@ -34,5 +34,5 @@ use Rattle.board.specs.Lines as Lines
 use Rattle.board.specs.Table.{All, none, more, table}
 
 pub board : All table
-unfolding any all pairs links keep insert gather pad span biased placeOf sizeOf sameOf numberOf padded labelOf heldLabel labelOk labelPart same rises ends inside on meets first splitOne splitAt splitAll held joins glue mergeBy merge kept run rest standing lay addWire drawWire bump jointsOf number total countAt box pads touches endsAt joints drawn tallyOf wire place remove meetsWire meetsPart delete placeAll turn hits turnRight mirror blankWire blankComponent blankJoint wireFits componentFits rooms blanks limits check1 share check2 check3 bare check4 touchingOne touchingFrom check6 upward check7 fromRule5 checkOf roomy Calls.edited Calls.addWire Calls.addComponent Calls.pointed Calls.deleteAt Calls.rotateAt Calls.mirrorAt checked digitsIn decimalOf signedOf Reading.digitsOf Reading.wholeOf Reading.signedOf Reading.numberOf Reading.fieldOf Reading.threeOf Reading.lettered Reading.threeLine Reading.labelled Reading.placeLine Reading.lineOf Reading.commandOf Rows.countWord Rows.placeWord Rows.labelWord Rows.tallyLine Rows.wireLine Rows.jointLine Rows.componentLine Rows.rowsOf Steps.answered Steps.counted Steps.choiceOf numberedOf Lines.said Lines.listedly Lines.asked Lines.run netlistOf netlistIn looseAnswer answerOf bufferOf netWord pinWord relay switch linesOf linesIn linesFrom listWith listOf looseIn looseOf merged netFrom startOf netOf rank meet numberFrom numbering numbersOf numberIn netNumbers
+unfolding any all pairs links keep insert gather pad span biased placeOf sizeOf sameOf numberOf padded labelOf heldLabel labelOk labelPart same rises ends inside on meets first splitOne splitAt splitAll held joins glue mergeBy merge kept run rest standing lay addWire drawWire bump jointsOf number total countAt box pads touches endsAt joints drawn tallyOf wire place remove meetsWire meetsPart delete placeAll turn hits turnRight mirror blankWire blankComponent blankJoint wireFits componentFits rooms blanks limits check1 share check2 check3 bare check4 touchingOne touchingFrom check6 upward check7 fromRule5 checkOf roomy Calls.edited Calls.addWire Calls.addComponent Calls.pointed Calls.deleteAt Calls.rotateAt Calls.mirrorAt checked digitsIn decimalOf signedOf Reading.digitsOf Reading.wholeOf Reading.signedOf Reading.numberOf Reading.fieldOf Reading.threeOf Reading.lettered Reading.threeLine Reading.labelled Reading.placeLine Reading.lineOf Reading.commandOf Rows.countWord Rows.placeWord Rows.labelWord Rows.tallyLine Rows.wireLine Rows.jointLine Rows.componentLine Rows.rowsOf Steps.answered Steps.counted Steps.choiceOf numberedOf Lines.said Lines.listedly Lines.asked Lines.run netlistOf netlistIn looseAnswer answerOf bufferOf netWord pinWord relay switch entryLines linesIn kindLines listWith listOf looseIn looseOf merged netFrom startOf netOf rank meet numberFrom numbering numbersOf numberIn netNumbers
 board = more refl (more refl (more refl (more refl (more refl (more refl (more refl (more refl (more refl (more refl (more refl (more refl none)))))))))))

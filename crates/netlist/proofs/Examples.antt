@@ -17,14 +17,14 @@ use Rattle.sheet.specs.Examples.{script}
 use Rattle.nets.specs.Numbers.{merged, netFrom, startOf, netOf, rank, meet, numberFrom, numbering, numbersOf}
 use Rattle.text.specs.Text.{digitsIn, decimalOf}
 use Rattle.net_numbers.specs.Netted.{numberIn, netNumbers}
-use Rattle.netlist.specs.Listing.{netWord, pinWord, relay, switch, linesOf, linesIn, linesFrom, listWith, listOf, looseIn, looseOf}
+use Rattle.netlist.specs.Listing.{netWord, pinWord, relay, switch, entryLines, linesIn, kindLines, listWith, listOf, looseIn, looseOf}
 
 -- the lines are `R N0 K1.A K1.B`, `S K1.A N0 N1` and `S K1.B N0 N2`
 whole-output : listOf script
     ≡ 82 ∷ 32 ∷ 78 ∷ 48 ∷ 32 ∷ 75 ∷ 49 ∷ 46 ∷ 65 ∷ 32 ∷ 75 ∷ 49 ∷ 46 ∷ 66 ∷ 10
     ∷ 83 ∷ 32 ∷ 75 ∷ 49 ∷ 46 ∷ 65 ∷ 32 ∷ 78 ∷ 48 ∷ 32 ∷ 78 ∷ 49 ∷ 10
     ∷ 83 ∷ 32 ∷ 75 ∷ 49 ∷ 46 ∷ 66 ∷ 32 ∷ 78 ∷ 48 ∷ 32 ∷ 78 ∷ 50 ∷ 10 ∷ []
-unfolding any keep insert gather span biased labelPart same rises ends inside on meets first splitOne splitAt splitAll kept run rest standing lay addWire drawWire bump jointsOf pads joints wire place merged netFrom startOf netOf rank meet numberFrom numbering numbersOf digitsIn decimalOf numberIn netNumbers netWord pinWord relay switch linesOf linesIn linesFrom listWith listOf
+unfolding any keep insert gather span biased labelPart same rises ends inside on meets first splitOne splitAt splitAll kept run rest standing lay addWire drawWire bump jointsOf pads joints wire place merged netFrom startOf netOf rank meet numberFrom numbering numbersOf digitsIn decimalOf numberIn netNumbers netWord pinWord relay switch entryLines linesIn kindLines listWith listOf
 whole-output = refl
 
 -- `E 2`

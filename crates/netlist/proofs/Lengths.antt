@@ -20,11 +20,11 @@ use Rattle.text.specs.Text.{decimalOf}
 use Rattle.text.proofs.Decimals.{length-decimal}
 use Rattle.net_numbers.specs.Netted.{netNumbers}
 use Rattle.net_numbers.proofs.Numbered.{net-numbers-low}
-use Rattle.netlist.specs.Listing.{switch, Entry, entry, padsIn, linesOf, linesIn, linesFrom, listWith, nth, listOf}
+use Rattle.netlist.specs.Listing.{switch, Entry, entry, padsIn, entryLines, linesIn, kindLines, listWith, nth, listOf}
 use Rattle.netlist.proofs.Spelling.{length-net, length-pin, length-relay, length-switch}
 
-lines-short : (k : ℕ) (l : List ℕ) (a b c : ℕ) → length l ≤ 16 → length (decimalOf a) ≤ 3 → length (decimalOf b) ≤ 3 → length (decimalOf c) ≤ 3 → length (linesOf k l a b c) ≤ 62
-unfolding linesOf
+lines-short : (k : ℕ) (l : List ℕ) (a b c : ℕ) → length l ≤ 16 → length (decimalOf a) ≤ 3 → length (decimalOf b) ≤ 3 → length (decimalOf c) ≤ 3 → length (entryLines k l a b c) ≤ 62
+unfolding entryLines
 lines-short zero l a b c h i j k = omega arith
 lines-short (suc zero) l a b c h i j k = omega (
   arith,
@@ -48,24 +48,24 @@ one-kind k ls h (fail p) (pass q) = omega arith
 one-kind k ls h (fail p) (fail q) = omega arith
 
 -- the coils and the contacts
-pub length-list : (net : ℕ → ℕ) (es : List Entry) → length (listWith net es) ≡ length (linesFrom net 2 0 es) + length (linesFrom net 1 0 es)
+pub length-list : (net : ℕ → ℕ) (es : List Entry) → length (listWith net es) ≡ length (kindLines net 2 0 es) + length (kindLines net 1 0 es)
 unfolding listWith
-length-list net es = length-append (linesFrom net 2 0 es) (linesFrom net 1 0 es)
+length-list net es = length-append (kindLines net 2 0 es) (kindLines net 1 0 es)
 
 module _ (net : ℕ → ℕ) (digits : (j : ℕ) → length (decimalOf (net j)) ≤ 3) where
-  both-short : (es : List Entry) (i : ℕ) → ((e : Entry) → e ∈ es → length (e .label) ≤ 16) → length (linesFrom net 2 i es) + length (linesFrom net 1 i es) ≤ 62 * length es
-  unfolding linesFrom linesIn
+  both-short : (es : List Entry) (i : ℕ) → ((e : Entry) → e ∈ es → length (e .label) ≤ 16) → length (kindLines net 2 i es) + length (kindLines net 1 i es) ≤ 62 * length es
+  unfolding kindLines linesIn
   both-short [] i h = omega arith
   both-short (x ∷ es) i h =
-      let ls : List ℕ = linesOf (x .kind) (x .label) (net i) (net (i + 1)) (net (i + 2)) in
+      let ls : List ℕ = entryLines (x .kind) (x .label) (net i) (net (i + 1)) (net (i + 2)) in
       let j : ℕ = i + padsIn (x .kind) in
       let one = one-kind (x .kind) ls (lines-short (x .kind) (x .label) (net i) (net (i + 1)) (net (i + 2)) (h x (∈-head refl)) (digits i) (digits (i + 1)) (digits (i + 2))) (eqb-reads (x .kind) 2) (eqb-reads (x .kind) 1) in
       omega (
         arith,
         one,
         both-short es j (λ e m. h e (∈-tail m)),
-        length-append (cond (eqb (x .kind) 2) ls []) (linesFrom net 2 j es),
-        length-append (cond (eqb (x .kind) 1) ls []) (linesFrom net 1 j es),
+        length-append (cond (eqb (x .kind) 2) ls []) (kindLines net 2 j es),
+        length-append (cond (eqb (x .kind) 1) ls []) (kindLines net 1 j es),
       )
 
   list-short : (es : List Entry) → ((e : Entry) → e ∈ es → length (e .label) ≤ 16) → length es ≤ 128 → length (listWith net es) ≤ 7936

@@ -13,10 +13,10 @@ use Rattle.orientation.specs.Orientations.{zeros}
 use Rattle.sheet.specs.declared.Component.{Component}
 use Rattle.sheet.specs.declared.Components.{Components}
 use Rattle.sheet.specs.Drawings.{componentRows}
-use Rattle.netlist.specs.Listing.{relay, switch, Entry, entry, padsIn, linesOf, linesIn, linesFrom, nth}
+use Rattle.netlist.specs.Listing.{relay, switch, Entry, entry, padsIn, entryLines, linesIn, kindLines, nth}
 
-none-of : (l : List ℕ) (n a b k : ℕ) → (k ≡ 1 → ⊥) → (k ≡ 2 → ⊥) → linesOf k l n a b ≡ []
-unfolding linesOf
+none-of : (l : List ℕ) (n a b k : ℕ) → (k ≡ 1 → ⊥) → (k ≡ 2 → ⊥) → entryLines k l n a b ≡ []
+unfolding entryLines
 none-of l n a b zero f g = refl
 none-of l n a b (suc zero) f g = absurd (f refl)
 none-of l n a b (suc (suc zero)) f g = absurd (g refl)
@@ -24,12 +24,12 @@ none-of l n a b (suc (suc (suc k))) f g = refl
 
 module _ (e : Entry) {kind : ℕ} (n a b : ℕ) where
   pub contact-lines : {l : List ℕ} → l ≡ e .label → e .kind ≡ kind → kind ≡ 1 → switch l 65 n a ++ switch l 66 n b ≡ linesIn kind e n a b
-  unfolding linesIn linesOf
-  contact-lines p q r = (λ i. switch (p i) 65 n a ++ switch (p i) 66 n b) ∙ sym (λ i. cond (eqb ((q ∙ r) i) (r i)) (linesOf ((q ∙ r) i) (e .label) n a b) [])
+  unfolding linesIn entryLines
+  contact-lines p q r = (λ i. switch (p i) 65 n a ++ switch (p i) 66 n b) ∙ sym (λ i. cond (eqb ((q ∙ r) i) (r i)) (entryLines ((q ∙ r) i) (e .label) n a b) [])
 
   pub coil-lines : {l : List ℕ} → l ≡ e .label → e .kind ≡ kind → kind ≡ 2 → relay l n ≡ linesIn kind e n a b
-  unfolding linesIn linesOf
-  coil-lines p q r = (λ i. relay (p i) n) ∙ sym (λ i. cond (eqb ((q ∙ r) i) (r i)) (linesOf ((q ∙ r) i) (e .label) n a b) [])
+  unfolding linesIn entryLines
+  coil-lines p q r = (λ i. relay (p i) n) ∙ sym (λ i. cond (eqb ((q ∙ r) i) (r i)) (entryLines ((q ∙ r) i) (e .label) n a b) [])
 
   pub other-lines : (e .kind ≡ kind → ⊥) → linesIn kind e n a b ≡ []
   unfolding linesIn
@@ -46,20 +46,20 @@ blank = record { kind = 0; «rot_mirror» = zeros; x = 0; y = 0; label = [] }
 -- the components from row i on, the first of which starts at pad `at`
 module _ (t : Components) (net : ℕ → ℕ) (kind at i : ℕ) (rows : t .count ≤ length (t .rows)) where
   pub lines-step : (d : Component) → i < t .count → {k : ℕ} → k ≡ padsIn (getD (t .rows) i d .kind)
-      → linesFrom net kind at (map entry (drop i (componentRows t))) ≡ linesIn kind (entry (getD (t .rows) i d)) (net at) (net (at + 1)) (net (at + 2)) ++ linesFrom net kind (at + k) (map entry (drop (i + 1) (componentRows t)))
-  unfolding linesFrom
+      → kindLines net kind at (map entry (drop i (componentRows t))) ≡ linesIn kind (entry (getD (t .rows) i d)) (net at) (net (at + 1)) (net (at + 2)) ++ kindLines net kind (at + k) (map entry (drop (i + 1) (componentRows t)))
+  unfolding kindLines
   lines-step d h {k} e =
-      ap (λ cs. linesFrom net kind at (map entry cs)) (rows-from (t .rows) (t .count) i d h rows)
-      ∙ ap (λ m. linesIn kind (entry (getD (t .rows) i d)) (net at) (net (at + 1)) (net (at + 2)) ++ linesFrom net kind (at + m) (map entry (drop (i + 1) (componentRows t)))) (sym e)
+      ap (λ cs. kindLines net kind at (map entry cs)) (rows-from (t .rows) (t .count) i d h rows)
+      ∙ ap (λ m. linesIn kind (entry (getD (t .rows) i d)) (net at) (net (at + 1)) (net (at + 2)) ++ kindLines net kind (at + m) (map entry (drop (i + 1) (componentRows t)))) (sym e)
 
-  pub lines-part : (d : Component) → i < t .count → length (linesIn kind (entry (getD (t .rows) i d)) (net at) (net (at + 1)) (net (at + 2))) ≤ length (linesFrom net kind at (map entry (drop i (componentRows t))))
+  pub lines-part : (d : Component) → i < t .count → length (linesIn kind (entry (getD (t .rows) i d)) (net at) (net (at + 1)) (net (at + 2))) ≤ length (kindLines net kind at (map entry (drop i (componentRows t))))
   lines-part d h =
       let c : Component = getD (t .rows) i d in
-      omega (arith, ap length (lines-step d h refl), length-append (linesIn kind (entry c) (net at) (net (at + 1)) (net (at + 2))) (linesFrom net kind (at + padsIn (c .kind)) (map entry (drop (i + 1) (componentRows t)))))
+      omega (arith, ap length (lines-step d h refl), length-append (linesIn kind (entry c) (net at) (net (at + 1)) (net (at + 2))) (kindLines net kind (at + padsIn (c .kind)) (map entry (drop (i + 1) (componentRows t)))))
 
-  pub lines-end : t .count ≤ i → linesFrom net kind at (map entry (drop i (componentRows t))) ≡ []
-  unfolding linesFrom
-  lines-end h = ap (λ cs. linesFrom net kind at (map entry cs)) (rows-past (t .rows) (t .count) i h rows)
+  pub lines-end : t .count ≤ i → kindLines net kind at (map entry (drop i (componentRows t))) ≡ []
+  unfolding kindLines
+  lines-end h = ap (λ cs. kindLines net kind at (map entry cs)) (rows-past (t .rows) (t .count) i h rows)
 
 -- zeros behind the numbers change no number
 pub nth-pad : (n : ℕ) (ns : List ℕ) → nth (pad n 0 ns) ≡ nth ns

@@ -7,7 +7,7 @@ use Prim.Native.Nat.{ℕ, zero, suc, _+_, _≤_, _<_}
 use native.Mathlib.Omega.{arith}
 use Rattle.lists.specs.Lists.{_∈_}
 use Rattle.lists.proofs.Tests.{Reads, pass, fail, eqb-reads, ltb-reads, compare}
-use Rattle.netlist.specs.Listing.{switch, Entry, padsIn, linesOf, linesIn, linesFrom, listWith}
+use Rattle.netlist.specs.Listing.{switch, Entry, padsIn, entryLines, linesIn, kindLines, listWith}
 use Rattle.netlist.proofs.Spelling.{relay-told, switch-told}
 
 -- the pads of all entries
@@ -28,8 +28,8 @@ module _ (net net′ : ℕ → ℕ) where
   Alike kind i (e ∷ es) = (e .kind ≡ kind → Agree (e .kind) i) × Alike kind (i + padsIn (e .kind)) es
 
   lines-agree : (kind : ℕ) → 0 < kind → kind ≤ 2 → (l : List ℕ) (i : ℕ) (s t : List ℕ)
-      → linesOf kind l (net i) (net (i + 1)) (net (i + 2)) ++ s ≡ linesOf kind l (net′ i) (net′ (i + 1)) (net′ (i + 2)) ++ t → Agree kind i × (s ≡ t)
-  unfolding linesOf
+      → entryLines kind l (net i) (net (i + 1)) (net (i + 2)) ++ s ≡ entryLines kind l (net′ i) (net′ (i + 1)) (net′ (i + 2)) ++ t → Agree kind i × (s ≡ t)
+  unfolding entryLines
   lines-agree zero a b l i s t e = absurd (omega arith)
   lines-agree (suc zero) a b l i s t e =
       let u : List ℕ → List ℕ = λ z. switch l 66 (net i) (net (i + 2)) ++ z in
@@ -43,21 +43,21 @@ module _ (net net′ : ℕ → ℕ) where
   -- one entry and those behind it
   entry-told : (kind : ℕ) → 0 < kind → kind ≤ 2 → (x : Entry) (i : ℕ) (P : Type 0) (u v s t : List ℕ)
       → (u ++ s ≡ v ++ t → P × (s ≡ t)) → {b : Bool} → Reads (x .kind ≡ kind) b
-      → (cond b (linesOf (x .kind) (x .label) (net i) (net (i + 1)) (net (i + 2))) [] ++ u) ++ s ≡ (cond b (linesOf (x .kind) (x .label) (net′ i) (net′ (i + 1)) (net′ (i + 2))) [] ++ v) ++ t
+      → (cond b (entryLines (x .kind) (x .label) (net i) (net (i + 1)) (net (i + 2))) [] ++ u) ++ s ≡ (cond b (entryLines (x .kind) (x .label) (net′ i) (net′ (i + 1)) (net′ (i + 2))) [] ++ v) ++ t
       → ((x .kind ≡ kind → Agree (x .kind) i) × P) × (s ≡ t)
   entry-told kind a b x i P u v s t rest (pass p) e =
-      let f : List ℕ = linesOf (x .kind) (x .label) (net i) (net (i + 1)) (net (i + 2)) in
-      let g : List ℕ = linesOf (x .kind) (x .label) (net′ i) (net′ (i + 1)) (net′ (i + 2)) in
+      let f : List ℕ = entryLines (x .kind) (x .label) (net i) (net (i + 1)) (net (i + 2)) in
+      let g : List ℕ = entryLines (x .kind) (x .label) (net′ i) (net′ (i + 1)) (net′ (i + 2)) in
       let r = lines-agree (x .kind) (omega arith) (omega arith) (x .label) i (u ++ s) (v ++ t) (sym (append-assoc f u s) ∙ e ∙ append-assoc g v t) in
       let q = rest (r .1) in
       ((λ _. r .0, q .0), q .1)
   entry-told kind a b x i P u v s t rest (fail n) e = let q = rest e in ((λ p. absurd (n p), q .0), q .1)
 
-  lines-told : (kind : ℕ) → 0 < kind → kind ≤ 2 → (i : ℕ) (es : List Entry) (s t : List ℕ) → linesFrom net kind i es ++ s ≡ linesFrom net′ kind i es ++ t → Alike kind i es × (s ≡ t)
-  unfolding linesFrom linesIn
+  lines-told : (kind : ℕ) → 0 < kind → kind ≤ 2 → (i : ℕ) (es : List Entry) (s t : List ℕ) → kindLines net kind i es ++ s ≡ kindLines net′ kind i es ++ t → Alike kind i es × (s ≡ t)
+  unfolding kindLines linesIn
   lines-told kind a b i [] s t e = (tt, e)
   lines-told kind a b i (x ∷ es) s t e =
-      entry-told kind a b x i (Alike kind (i + padsIn (x .kind)) es) (linesFrom net kind (i + padsIn (x .kind)) es) (linesFrom net′ kind (i + padsIn (x .kind)) es) s t
+      entry-told kind a b x i (Alike kind (i + padsIn (x .kind)) es) (kindLines net kind (i + padsIn (x .kind)) es) (kindLines net′ kind (i + padsIn (x .kind)) es) s t
       (lines-told kind a b (i + padsIn (x .kind)) es s t) (eqb-reads (x .kind) kind) e
 
   -- ---- all pads
@@ -91,6 +91,6 @@ module _ (net net′ : ℕ → ℕ) where
   pub list-told : (es : List Entry) → ((e : Entry) → e ∈ es → e .kind ≤ 2) → Alike 0 0 es → listWith net es ≡ listWith net′ es → (j : ℕ) → j < padsAll es → net j ≡ net′ j
   unfolding listWith
   list-told es k a e j h =
-      let r = lines-told 2 (omega arith) (omega arith) 0 es (linesFrom net 1 0 es) (linesFrom net′ 1 0 es) e in
-      let q = lines-told 1 (omega arith) (omega arith) 0 es [] [] (append-nil (linesFrom net 1 0 es) ∙ r .1 ∙ sym (append-nil (linesFrom net′ 1 0 es))) in
+      let r = lines-told 2 (omega arith) (omega arith) 0 es (kindLines net 1 0 es) (kindLines net′ 1 0 es) e in
+      let q = lines-told 1 (omega arith) (omega arith) 0 es [] [] (append-nil (kindLines net 1 0 es) ∙ r .1 ∙ sym (append-nil (kindLines net′ 1 0 es))) in
       every es 0 k a (q .0) (r .0) j (omega arith) (omega arith)

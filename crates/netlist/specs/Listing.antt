@@ -47,26 +47,28 @@ padsIn kind = length (padsAt kind)
 
 -- the lines of a component whose pads, in symbol order, are on the nets n, n′ and n″: Power (kind 0) has none; a contact (1)
 -- `S <label>.A N<C> N<A>` and `S <label>.B N<C> N<B>`; a coil (2) `R N<net> <label>.A <label>.B`
-unfoldable pub linesOf : ℕ → List ℕ → ℕ → ℕ → ℕ → List ℕ
-linesOf zero label n n′ n″ = []
-linesOf (suc zero) label n n′ n″ = switch label 65 n n′ ++ switch label 66 n n″
-linesOf (suc (suc zero)) label n n′ n″ = relay label n
-linesOf (suc (suc (suc k))) label n n′ n″ = []
+unfoldable pub entryLines : ℕ → List ℕ → ℕ → ℕ → ℕ → List ℕ
+entryLines zero label n n′ n″ = []
+entryLines (suc zero) label n n′ n″ = switch label 65 n n′ ++ switch label 66 n n″
+entryLines (suc (suc zero)) label n n′ n″ = relay label n
+entryLines (suc (suc (suc k))) label n n′ n″ = []
 
 -- a component's part in the lines of one kind
 unfoldable pub linesIn : ℕ → Entry → ℕ → ℕ → ℕ → List ℕ
-linesIn kind e n n′ n″ = cond (eqb (e .kind) kind) (linesOf (e .kind) (e .label) n n′ n″) []
+linesIn kind e n n′ n″ = cond (eqb (e .kind) kind) (entryLines (e .kind) (e .label) n n′ n″) []
 
 -- the lines of all components of one kind, in row order; the first pad of the first component is pad i, and pad j is on net `net j`
-unfoldable pub linesFrom : (ℕ → ℕ) → ℕ → ℕ → List Entry → List ℕ
-linesFrom net kind i [] = []
-linesFrom net kind i (e ∷ es) = linesIn kind e (net i) (net (i + 1)) (net (i + 2)) ++ linesFrom net kind (i + padsIn (e .kind)) es
+unfoldable pub kindLines : (ℕ → ℕ) → ℕ → ℕ → List Entry → List ℕ
+kindLines net kind i [] = []
+kindLines net kind i (e ∷ es) = linesIn kind e (net i) (net (i + 1)) (net (i + 2)) ++ kindLines net kind (i + padsIn (e .kind)) es
 
 -- "All coils in row order", "then per contact"
 unfoldable pub listWith : (ℕ → ℕ) → List Entry → List ℕ
-listWith net es = linesFrom net 2 0 es ++ linesFrom net 1 0 es
+listWith net es = kindLines net 2 0 es ++ kindLines net 1 0 es
 
--- pad j is on the j-th net of a row of numbers
+-- pad j is on the j-th net of a row of numbers. Past its end the 0 read there would mean fed, but no pad's number is missing: a sheet's
+-- row has as many numbers as the sheet has pads (`Numbered.each`, net_numbers/proofs/Numbered: numbered), and a component's lines tell the
+-- nets of its own pads alone.
 abbrev pub nth : List ℕ → ℕ → ℕ
 nth ns j = getD ns j 0
 

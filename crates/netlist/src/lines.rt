@@ -3,7 +3,7 @@ ghost use mathlib.Core.List.{map};
 ghost use Prim.Native.Nat.{_≤_};
 ghost use Rattle.sheet.specs.Drawings.{componentRows};
 ghost use Rattle.text.specs.Text.{Put, Room};
-ghost use Rattle.netlist.specs.Listing.{netWord, pinWord, relay, switch, entry, linesIn, linesFrom, nth};
+ghost use Rattle.netlist.specs.Listing.{netWord, pinWord, relay, switch, entry, linesIn, kindLines, nth};
 use label::label_part;
 use parts::pads::pads_of_kind;
 use sheet::Component;
@@ -85,8 +85,8 @@ pub(crate) fn put_lines(
     numbers: [u16; 384],
     kind: u8,
 ) -> usize
-    requires { ⌜ cs .count ≤ 128 ⌝ ∗ ⌜ Room at (linesFrom (nth numbers) kind 0 (map entry (componentRows cs))) ⌝ }
-    ensures { λ r. ⌜ Put (now (out .entry)) at (linesFrom (nth numbers) kind 0 (map entry (componentRows cs))) (now (out .exit)) r ⌝ }
+    requires { ⌜ cs .count ≤ 128 ⌝ ∗ ⌜ Room at (kindLines (nth numbers) kind 0 (map entry (componentRows cs))) ⌝ }
+    ensures { λ r. ⌜ Put (now (out .entry)) at (kindLines (nth numbers) kind 0 (map entry (componentRows cs))) (now (out .exit)) r ⌝ }
 {
     let count = cs.count;
     let mut next = at;

@@ -7,7 +7,7 @@ use lib.ListN.{length, drop}
 use Rattle.lists.proofs.Tables.{long}
 use Rattle.sheet.specs.Drawings.{componentRows}
 use Rattle.text.proofs.Puts.{Todo, todo-all, todo-step, todo-done}
-use Rattle.netlist.specs.Listing.{entry, linesFrom, nth}
+use Rattle.netlist.specs.Listing.{entry, kindLines, nth}
 use Rattle.netlist.proofs.Rows.{blank, lines-step, lines-part, lines-end}
 use Rattle.netlist.proofs.lines.put_lines.Statement.{statement}
 use Rattle.netlist.proofs.lines.put_lines.Tie as tie
@@ -15,7 +15,7 @@ use Rattle.netlist.proofs.lines.put_lines.Tie as tie
 abbrev Inv-loop : tie.InvT-loop
 Inv-loop out₀ at kind cs numbers count next₀ pad₀ i₀ out next pad i =
     (i ≤ count) × (length (cs .rows) ≡ 128) × (pad ≤ 3 * i) × (length out ≡ length out₀)
-    × Todo out next (linesFrom (nth numbers) kind pad (map entry (drop i (componentRows cs)))) out₀ at (linesFrom (nth numbers) kind 0 (map entry (componentRows cs)))
+    × Todo out next (kindLines (nth numbers) kind pad (map entry (drop i (componentRows cs)))) out₀ at (kindLines (nth numbers) kind 0 (map entry (componentRows cs)))
 
 abbrev μ-loop : tie.MeasureT-loop
 μ-loop out₀ at kind cs numbers count next₀ pad₀ i₀ out next pad i = count - i
