@@ -54,7 +54,7 @@ module _ {d : Drawing} {used : ℕ} {out : List ℕ} (h : used ≤ 65536) (long 
       short le =
           let e : keptOf used ≡ used = rw (le-leb _ _ le) in
           let q : Put out used (checked d) out′ n = subst (λ k. Put out k (checked d) out′ n) e p in
-          record { written = []; spilled = none; all = put-front q (omega (arith, e)); fits = omega (arith, e) }
+          record { written = []; spilled = none; within = omega arith; all = put-front q (omega (arith, e)); fits = omega (arith, e) }
 
       spill : 65500 < used → Answers d used out n out′
       spill lt =
@@ -63,6 +63,7 @@ module _ {d : Drawing} {used : ℕ} {out : List ℕ} (h : used ≤ 65536) (long 
           record {
             written = take used out;
             spilled = many {w = take used out} (omega (arith, length-take-le used out (omega arith)));
+            within = omega (arith, length-take-le used out (omega arith));
             all = ap (λ l. take used out ++ l) (put-front q (omega (arith, e)));
             fits = omega (arith, e);
           }

@@ -36,6 +36,7 @@ standing r written out = record {
 pub record Answers (d : Drawing) (used : ℕ) (out : List ℕ) (n : ℕ) (out′ : List ℕ) : Type 0 where
   pub written : List ℕ
   pub spilled : Spilled written
+  pub within : length written ≤ used
   pub all : written ++ take n out′ ≡ take used out ++ checked d
   pub fits : n ≤ 65536
 
@@ -64,10 +65,11 @@ pub record Read (q : Held) (held out : List ℕ) : Type 0 where
   pub few : q .count ≤ 81
 
 -- The end of a run: what is written out by now, and the first n bytes of out′, are all that is to be printed; where a line was
--- unreadable, those n bytes alone are.
+-- unreadable, those n bytes alone are. Nothing is written out but answers to drawings before.
 pub record Ends (t : List ℕ → Told) (n : ℕ) (out′ : List ℕ) : Type 0 where
   pub written : List ℕ
   pub spilled : Spilled written
+  pub within : (before : List ℕ) → length (before ++ written) ≤ length (t before .answers)
   pub all : (before : List ℕ) → cond (t before .stopped) [] (before ++ written) ++ take n out′ ≡ concluded (t before)
   pub fits : n ≤ 65536
 
@@ -77,5 +79,6 @@ pub record Printed (n : ℕ) (out : List ℕ) : Type 0 where
   pub input : List (List ℕ)
   pub written : List ℕ
   pub spilled : Spilled written
+  pub within : length written ≤ length (through after start (linesOf (joined input)) .answers)
   pub all : cond (through after start (linesOf (joined input)) .stopped) [] written ++ take n out ≡ answersOf (joined input)
   pub fits : n ≤ 65536

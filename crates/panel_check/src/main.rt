@@ -74,8 +74,9 @@ fn take_line(r: State, line: &[u8], out: &mut [u8]) -> State
     if is_end(said) {
         let d = s.drawing;
         let used = answer(d, r.used, out);
+        let fresh = empty();
         return State {
-            sketch: empty(),
+            sketch: fresh,
             begun: false,
             lines,
             stopped: false,
