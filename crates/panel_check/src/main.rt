@@ -3,7 +3,10 @@ mod answers;
 
 ghost use mathlib.Core.Path.{_≡_};
 ghost use Prim.Native.Nat.{_≤_};
-ghost use lib.ListN.{length};
+ghost use lib.ListN.{length, take};
+ghost use Rattle.lines.specs.Runs.{ran, finish};
+ghost use Rattle.panel_check.specs.Telling.{after};
+ghost use Rattle.panel_check.specs.Printing.{keptOf, standing, Answers, Takes, Done, Read, Ends, Printed};
 use answers::is_end;
 use answers::next_number;
 use answers::put_checked;
@@ -13,31 +16,32 @@ use lawful::check;
 use libc::STDIN_FILENO;
 use libc::STDOUT_FILENO;
 use lines::Cut;
+use sheet::Drawing;
 use sketch::Sketch;
 use sketch::add;
 use sketch::empty;
 
 // How far the input is read: the drawing that has begun, if a line of it was read; the number of the last line, and whether it was
 // unreadable; and how many bytes of answers wait.
-struct State {
-    sketch: Sketch,
-    begun: bool,
-    lines: u32,
-    stopped: bool,
-    used: usize,
+pub struct State {
+    pub sketch: Sketch,
+    pub begun: bool,
+    pub lines: u32,
+    pub stopped: bool,
+    pub used: usize,
 }
 
 // A run, and how many bytes of the line that has begun are held.
-struct Held {
-    run: State,
-    count: usize,
+pub struct Held {
+    pub run: State,
+    pub count: usize,
 }
 
 // Room for an answer. Answers wait for the end of the input, as an unreadable line is told alone; where some thousands wait, they are
 // written.
 fn room(out: &[u8], used: usize) -> usize
     requires { ⌜ used ≤ 65536 ⌝ ∗ ⌜ length (now out) ≡ 65536 ⌝ }
-    ensures { λ r. ⌜ r ≤ 65500 ⌝ }
+    ensures { λ r. ⌜ r ≡ keptOf used ⌝ }
 {
     if used <= 65500 {
         return used;
@@ -46,10 +50,20 @@ fn room(out: &[u8], used: usize) -> usize
     0
 }
 
-// One line.
+// The answer to a drawing, behind those that wait; and how many bytes wait then.
+fn answer(d: Drawing, used: usize, out: &mut [u8]) -> usize
+    requires { ⌜ used ≤ 65536 ⌝ ∗ ⌜ length (now out) ≡ 65536 ⌝ }
+    ensures { λ n. ⌜ Answers d used (now (out .entry)) n (now (out .exit)) ⌝ }
+{
+    let at = room(out, used);
+    let k = check(d);
+    put_checked(out, at, k.rule, k.first, k.second)
+}
+
+// One line. Two wrong answers that this rules out: a line `.` that is not counted, and a drawing with rows of the one before.
 fn take_line(r: State, line: &[u8], out: &mut [u8]) -> State
     requires { ⌜ r .used ≤ 65536 ⌝ ∗ ⌜ length (now out) ≡ 65536 ⌝ }
-    ensures { λ q. ⌜ q .used ≤ 65536 ⌝ }
+    ensures { λ q. ⌜ Takes r (now (line .entry)) (now (out .entry)) q (now (out .exit)) ⌝ }
 {
     if r.stopped {
         return r;
@@ -59,11 +73,10 @@ fn take_line(r: State, line: &[u8], out: &mut [u8]) -> State
     let s = r.sketch;
     if is_end(said) {
         let d = s.drawing;
-        let at = room(out, r.used);
-        let k = check(d);
-        let used = put_checked(out, at, k.rule, k.first, k.second);
+        let used = answer(d, r.used, out);
+        let fresh = empty();
         return State {
-            sketch: empty(),
+            sketch: fresh,
             begun: false,
             lines,
             stopped: false,
@@ -84,7 +97,7 @@ fn take_line(r: State, line: &[u8], out: &mut [u8]) -> State
 // All the lines that end in a chunk.
 fn take_chunk(run: State, chunk: &[u8], held: &mut [u8], begun: usize, out: &mut [u8]) -> Held
     requires { ⌜ run .used ≤ 65536 ⌝ ∗ ⌜ 81 ≤ length (now held) ⌝ ∗ ⌜ begun ≤ 81 ⌝ ∗ ⌜ length (now out) ≡ 65536 ⌝ }
-    ensures { λ q. ⌜ (q .run .used ≤ 65536) × (q .count ≤ 81) ⌝ }
+    ensures { λ q. ⌜ Done run (now (chunk .entry)) (now (held .entry)) begun (now (out .entry)) q (now (held .exit)) (now (out .exit)) ⌝ }
 {
     let mut r = run;
     let mut at = 0;
@@ -104,43 +117,39 @@ fn take_chunk(run: State, chunk: &[u8], held: &mut [u8], begun: usize, out: &mut
     Held { run: r, count }
 }
 
-// The end of the input: a drawing that has begun is answered, or the unreadable line told alone.
-fn tell(r: State, out: &mut [u8])
+// The end of the input: a drawing that has begun is answered, or the unreadable line told alone. So many bytes are left to write.
+fn tell(r: State, out: &mut [u8]) -> usize
     requires { ⌜ r .used ≤ 65536 ⌝ ∗ ⌜ length (now out) ≡ 65536 ⌝ }
+    ensures { λ n. ⌜ Ends (λ written. standing r written (now (out .entry))) n (now (out .exit)) ⌝ }
 {
     if r.stopped {
-        let n = put_unreadable(out, r.lines);
-        io::write_all(STDOUT_FILENO, &out[..n]);
-        return;
+        return put_unreadable(out, r.lines);
     }
     if r.begun {
         let s = r.sketch;
         let d = s.drawing;
-        let at = room(out, r.used);
-        let k = check(d);
-        let n = put_checked(out, at, k.rule, k.first, k.second);
-        io::write_all(STDOUT_FILENO, &out[..n]);
-        return;
+        return answer(d, r.used, out);
     }
-    let n = r.used;
-    io::write_all(STDOUT_FILENO, &out[..n]);
+    r.used
 }
 
 // A last line without a newline, if it is not empty, and then the end.
-fn finish(r: State, held: &[u8], count: usize, out: &mut [u8])
+fn finish(r: State, held: &[u8], count: usize, out: &mut [u8]) -> usize
     requires { ⌜ r .used ≤ 65536 ⌝ ∗ ⌜ count ≤ length (now held) ⌝ ∗ ⌜ length (now out) ≡ 65536 ⌝ }
+    ensures { λ n. ⌜ Ends (λ written. finish after (ran (standing r written (now (out .entry))) (take count (now (held .entry))))) n (now (out .exit)) ⌝ }
 {
     if count > 0 {
         let last = take_line(r, &held[..count], out);
-        tell(last, out);
-    } else {
-        tell(r, out);
+        return tell(last, out);
     }
+    tell(r, out)
 }
 
-// A proved loop has to end, and nothing says that the input does: it counts its reads down, from a number that no input uses up.
-fn run(chunk: &mut [u8], held: &mut [u8], out: &mut [u8])
+// The lines of all that is read. A proved loop has to end, and nothing says that the input does: it counts its reads down, from a
+// number that no input uses up.
+fn read_lines(chunk: &mut [u8], held: &mut [u8], out: &mut [u8]) -> Held
     requires { ⌜ 81 ≤ length (now held) ⌝ ∗ ⌜ length (now out) ≡ 65536 ⌝ }
+    ensures { λ q. ⌜ Read q (now (held .exit)) (now (out .exit)) ⌝ }
 {
     let mut r = State {
         sketch: empty(),
@@ -156,19 +165,29 @@ fn run(chunk: &mut [u8], held: &mut [u8], out: &mut [u8])
         let got = libc::read(STDIN_FILENO, chunk);
         let n = io::count(got, chunk);
         if n == 0 {
-            finish(r, held, count, out);
-            return;
+            return Held { run: r, count };
         }
         let h = take_chunk(r, &chunk[..n], held, count, out);
         r = h.run;
         count = h.count;
     }
-    finish(r, held, count, out);
+    Held { run: r, count }
+}
+
+// All that is read, and how many bytes of its answers are left to write.
+fn run(chunk: &mut [u8], held: &mut [u8], out: &mut [u8]) -> usize
+    requires { ⌜ 81 ≤ length (now held) ⌝ ∗ ⌜ length (now out) ≡ 65536 ⌝ }
+    ensures { λ n. ⌜ Printed n (now (out .exit)) ⌝ }
+{
+    let h = read_lines(chunk, held, out);
+    let r = h.run;
+    finish(r, held, h.count, out)
 }
 
 fn main() {
     let mut chunk = io::large_buffer();
     let mut held = [0u8; 81];
     let mut out = io::large_buffer();
-    run(&mut chunk, &mut held, &mut out);
+    let n = run(&mut chunk, &mut held, &mut out);
+    io::write_all(STDOUT_FILENO, &out[..n]);
 }

@@ -2,12 +2,14 @@
 use mathlib.Core.Path.{sym}
 use native.Mathlib.Omega.{arith}
 use lib.Seq.{length-take-le}
+use borrow.Author.Tests.{le-leb}
+use Rattle.panel_check.proofs.Standing.{kept-none}
 use borrow.Author.Needs.{needs}
 use Rattle.panel_check.proofs.room.Statement.{statement}
 use Rattle.panel_check.proofs.room.Tie as tie
 
 returns : tie.Need-returns
-returns c = search needs
+returns c = rw (le-leb _ _ (c .if1 .taken))
 
 slice-aggregate-write-all : tie.Need-slice-aggregate-write-all
 slice-aggregate-write-all c = sym (length-take-le _ _ (omega arith))
@@ -16,7 +18,7 @@ write-all-requires : tie.Need-write-all-requires
 write-all-requires c κs = search needs
 
 returns-2 : tie.Need-returns-2
-returns-2 c = search needs
+returns-2 c = kept-none (c .before .before .before .before .args .used) (omega arith)
 
 pub room-spec : {M : Type 1} → statement M
 room-spec = tie.close (tie.spec returns slice-aggregate-write-all write-all-requires returns-2)

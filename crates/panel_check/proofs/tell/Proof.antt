@@ -1,7 +1,6 @@
--- `tell` meets its contract: what is written stands in the buffer.
-use mathlib.Core.Path.{sym}
+-- `tell` meets its contract: the unreadable line, a last answer, or the answers that wait.
 use native.Mathlib.Omega.{arith}
-use lib.Seq.{length-take-le}
+use Rattle.panel_check.proofs.Ending.{unreadable, answered, idle}
 use borrow.Author.Needs.{needs}
 use Rattle.panel_check.proofs.tell.Statement.{statement}
 use Rattle.panel_check.proofs.tell.Tie as tie
@@ -9,80 +8,32 @@ use Rattle.panel_check.proofs.tell.Tie as tie
 put-unreadable-requires : tie.Need-put-unreadable-requires
 put-unreadable-requires c κs = search needs
 
-slice-reshare-prefix-write-all : tie.Need-slice-reshare-prefix-write-all
-slice-reshare-prefix-write-all c = search needs
-
-slice-aggregate-write-all : tie.Need-slice-aggregate-write-all
-slice-aggregate-write-all c = sym (length-take-le _ _ (omega arith))
-
-write-all-requires : tie.Need-write-all-requires
-write-all-requires c κs = search needs
-
 same-length : tie.Need-same-length
 same-length c = search needs
 
 returns : tie.Need-returns
-returns c = search needs
+returns c = let s = c .before .before .before .before .before .before in unreadable (s .args .r) (s .args .out .now) (s .pre .1) (c .before .before .before .before .if1 .taken) (c .before .before .put-unreadable .ensures)
 
-room-requires : tie.Need-room-requires
-room-requires c κs = search needs
-
-check-requires : tie.Need-check-requires
-check-requires c κs = search needs
-
-put-checked-requires : tie.Need-put-checked-requires
-put-checked-requires c κs = search needs
-
-slice-reshare-prefix-write-all-2 : tie.Need-slice-reshare-prefix-write-all-2
-slice-reshare-prefix-write-all-2 c = search needs
-
-slice-aggregate-write-all-2 : tie.Need-slice-aggregate-write-all-2
-slice-aggregate-write-all-2 c = sym (length-take-le _ _ (omega arith))
-
-write-all-requires-2 : tie.Need-write-all-requires-2
-write-all-requires-2 c κs = search needs
+answer-requires : tie.Need-answer-requires
+answer-requires c κs = search needs
 
 same-length-2 : tie.Need-same-length-2
 same-length-2 c = search needs
 
 returns-2 : tie.Need-returns-2
-returns-2 c = search needs
-
-slice-reshare-prefix-write-all-3 : tie.Need-slice-reshare-prefix-write-all-3
-slice-reshare-prefix-write-all-3 c = search needs
-
-slice-aggregate-write-all-3 : tie.Need-slice-aggregate-write-all-3
-slice-aggregate-write-all-3 c = sym (length-take-le _ _ (omega arith))
-
-write-all-requires-3 : tie.Need-write-all-requires-3
-write-all-requires-3 c κs = search needs
-
-same-length-3 : tie.Need-same-length-3
-same-length-3 c = search needs
+returns-2 c = let s = c .before .before .before .before .before .before .before .before .before in answered (s .args .r) (s .args .out .now) (c .before .before .before .before .before .before .before .if1 .left) (omega (arith, s .pre .0, s .pre .1)) (c .before .before .before .before .before .before .if2 .taken) (c .before .before .answer .ensures)
 
 returns-3 : tie.Need-returns-3
-returns-3 c = search needs
+returns-3 c = let s = c .before .before .before in idle (s .args .r) (s .args .out .now) (c .before .if1 .left) (s .pre .0) (c .if2 .left)
 
 pub tell-spec : {M : Type 1} → statement M
 tell-spec =
     tie.close
     (tie.spec
     put-unreadable-requires
-    slice-reshare-prefix-write-all
-    slice-aggregate-write-all
-    write-all-requires
     same-length
     returns
-    room-requires
-    check-requires
-    put-checked-requires
-    slice-reshare-prefix-write-all-2
-    slice-aggregate-write-all-2
-    write-all-requires-2
+    answer-requires
     same-length-2
     returns-2
-    slice-reshare-prefix-write-all-3
-    slice-aggregate-write-all-3
-    write-all-requires-3
-    same-length-3
     returns-3)

@@ -1,0 +1,140 @@
+-- The end of the input: `unreadable`, `answered` and `idle` for `tell`, `last-line` and `no-line` for `finish`, `printed` for `run`;
+-- and `at-once`: not too many answers are printed at once.
+use mathlib.Core.Path.{_≡_, refl, sym, ap, subst, _∙_}
+use mathlib.Core.Bool.{Bool, true, false, cond}
+use mathlib.Core.Logic.{⊎-elim}
+use mathlib.Core.List.{List, [], _∷_, _++_, append-nil, append-assoc}
+use Prim.Native.Nat.{ℕ, _<_, _≤_}
+use native.Mathlib.Omega.{arith}
+use lib.ListN.{length, take, length-append}
+use lib.Seq.{take-all, length-take-le}
+use Rattle.lists.proofs.Tests.{decide, leb-reads}
+use Rattle.text.specs.Text.{Put}
+use Rattle.check_script.specs.declared.Said.{Said}
+use Rattle.check_script.specs.declared.Said.the-variants.{Unreadable}
+use Rattle.check_script.specs.Reading.{saidOf}
+use Rattle.check_script.proofs.Lines.{said-81, too-long}
+use Rattle.sketch.specs.Sketches.{notHeld, addedOf}
+use Rattle.lines.specs.Lines.{linesFrom, linesOf}
+use Rattle.lines.specs.Runs.{ran, joined, through, finish}
+use Rattle.lines.proofs.Runs.{in-chunks}
+use Rattle.panel_check.specs.declared.State.{State}
+use Rattle.panel_check.specs.declared.Held.{Held}
+use Rattle.panel_check.specs.Answers.{unreadableOf, isEnd}
+use Rattle.panel_check.specs.Telling.{Told, start, checked, ended, grown, after, concluded, answersOf}
+use Rattle.panel_check.specs.Printing.{Spilled, none, many, standing, Answers, Takes, Read, Ends, Printed}
+use Rattle.panel_check.proofs.Standing.{spilled-both, put-front}
+
+-- ---- the last words
+
+module _ (r : State) (out : List ℕ) where
+  pub unreadable : {n : ℕ} {out′ : List ℕ} → length out ≡ 65536 → r .stopped ≡ true → Put out 0 (unreadableOf (r .lines)) out′ n × (n ≤ 36) → Ends (λ written. standing r written out) n out′
+  unfolding concluded
+  unreadable long e p = record {
+    written = [];
+    spilled = none;
+    within = λ before. omega (arith, length-append before [], length-append before (take (r .used) out));
+    all = λ before. rw e (put-front (p .0) (omega (arith, p .1)));
+    fits = omega (arith, p .1);
+  }
+
+  module _ (going : r .stopped ≡ false) where
+    pub answered : {n : ℕ} {out′ : List ℕ} → r .used ≤ length out → r .begun ≡ true → Answers (r .sketch .drawing) (r .used) out n out′ → Ends (λ written. standing r written out) n out′
+    unfolding concluded
+    answered {n} {out′} there e a = record {
+      written = a .written;
+      spilled = a .spilled;
+      within = λ before. omega (arith, a .within, length-append before (a .written), length-append before (take (r .used) out), length-take-le (r .used) out there);
+      all = λ before.
+          let all : (before ++ a .written) ++ take n out′ ≡ (before ++ take (r .used) out) ++ checked (r .sketch .drawing) =
+          append-assoc before (a .written) (take n out′) ∙ ap (λ l. before ++ l) (a .all) ∙ sym (append-assoc before (take (r .used) out) (checked (r .sketch .drawing))) in
+          rw (going, e) all;
+      fits = a .fits;
+    }
+
+    pub idle : r .used ≤ 65536 → r .begun ≡ false → Ends (λ written. standing r written out) (r .used) out
+    unfolding concluded
+    idle h e = record {
+      written = [];
+      spilled = none;
+      within = λ before. omega (arith, length-append before [], length-append before (take (r .used) out));
+      all = λ before.
+          let all : (before ++ []) ++ take (r .used) out ≡ (before ++ take (r .used) out) ++ [] =
+          ap (λ b. b ++ take (r .used) out) (append-nil before) ∙ sym (append-nil (before ++ take (r .used) out)) in
+          rw (going, e) all;
+      fits = h;
+    }
+
+-- ---- a last line
+
+finish-some : (x : Told) (l : List ℕ) → 0 < length l → finish after (ran x l) ≡ after x l
+finish-some x [] h = absurd (omega arith)
+finish-some x (b ∷ l) h = refl
+
+module _ (r : State) (held out : List ℕ) (count : ℕ) {n : ℕ} where
+  pub last-line : (q : State) (out′ : List ℕ) {out″ : List ℕ} → 0 < count → count ≤ length held → Takes r (take count held) out q out′ → Ends (λ written. standing q written out′) n out″
+      → Ends (λ written. finish after (ran (standing r written out) (take count held))) n out″
+  last-line q out′ {out″} some there t e = record {
+    written = t .written ++ e .written;
+    spilled = spilled-both (t .spilled) (e .spilled);
+    within = λ before.
+        let is : length ((before ++ t .written) ++ e .written) ≡ length (before ++ (t .written ++ e .written)) = ap length (append-assoc before (t .written) (e .written)) in
+        omega (arith, is, e .within (before ++ t .written), ap (λ (x : Told). length (x .answers)) (same before));
+    all = λ before.
+        subst (λ (x : Told). cond (x .stopped) [] (before ++ (t .written ++ e .written)) ++ take n out″ ≡ concluded x) (same before)
+        (subst (λ b. cond (q .stopped) [] b ++ take n out″ ≡ concluded (standing q (before ++ t .written) out′)) (append-assoc before (t .written) (e .written)) (e .all (before ++ t .written)));
+    fits = e .fits;
+  }
+    where
+      same : (before : List ℕ) → standing q (before ++ t .written) out′ ≡ finish after (ran (standing r before out) (take count held))
+      same before = t .told before ∙ sym (finish-some (standing r before out) (take count held) (omega (arith, length-take-le count held there)))
+
+  pub no-line : {out′ : List ℕ} → count ≡ 0 → Ends (λ written. standing r written out) n out′ → Ends (λ written. finish after (ran (standing r written out) (take count held))) n out′
+  no-line {out′} z e = subst (λ k. Ends (λ written. finish after (ran (standing r written out) (take k held))) n out′) (sym z) e
+
+-- ---- the whole
+
+-- a line that says nothing is not looked at further
+after-unreadable : (t : Told) (l : List ℕ) → saidOf l ≡ Unreadable → after t l ≡ cond (t .stopped) t (grown t (notHeld (t .sketch)))
+unfolding after addedOf
+after-unreadable t l e = ap (λ (s : Said). cond (t .stopped) t (cond (isEnd s) (ended t) (grown t (addedOf (t .sketch) l s)))) e
+
+after-81 : (t : Told) (l : List ℕ) → after t (take 81 l) ≡ after t l
+after-81 t l = ⊎-elim (λ (le : length l ≤ 80). ap (after t) (take-all 81 l (omega arith))) (λ n. long (omega arith)) (decide (leb-reads (length l) 80))
+  where
+    long : 80 < length l → after t (take 81 l) ≡ after t l
+    long h = let e : saidOf l ≡ Unreadable = too-long l h in after-unreadable t (take 81 l) (said-81 l ∙ e) ∙ sym (after-unreadable t l e)
+
+whole : {q : Held} {held out : List ℕ} (g : Read q held out) → finish after (ran (standing (q .run) (g .written) out) (take (q .count) held)) ≡ through after start (linesOf (joined (g .input)))
+whole g = sym (ap (finish after) (g .gives)) ∙ in-chunks after after-81 start (g .input)
+
+pub printed : (q : Held) (held out : List ℕ) {out′ : List ℕ} {n : ℕ} → Read q held out → Ends (λ written. finish after (ran (standing (q .run) written out) (take (q .count) held))) n out′ → Printed n out′
+unfolding answersOf
+printed q held out {out′} {n} g e = record {
+  input = g .input;
+  written = g .written ++ e .written;
+  spilled = spilled-both (g .spilled) (e .spilled);
+  within = subst (λ (x : Told). length (g .written ++ e .written) ≤ length (x .answers)) (whole g) (e .within (g .written));
+  all = subst (λ (x : Told). cond (x .stopped) [] (g .written ++ e .written) ++ take n out′ ≡ concluded x) (whole g) (e .all (g .written));
+  fits = e .fits;
+}
+
+-- where the answers are not more than 65,500 bytes, the first n bytes of out are all that is printed
+pub at-once : {n : ℕ} {out : List ℕ} (p : Printed n out) → length (through after start (linesOf (joined (p .input))) .answers) ≤ 65500 → take n out ≡ answersOf (joined (p .input))
+at-once {n} {out} p few = go (p .spilled) (p .within) (p .all)
+  where
+    stopped : Bool
+    stopped = through after start (linesOf (joined (p .input))) .stopped
+
+    neither : (t : Bool) → cond t [] [] ++ take n out ≡ take n out
+    neither true = refl
+    neither false = refl
+
+    go : {w : List ℕ} → Spilled w → length w ≤ length (through after start (linesOf (joined (p .input))) .answers) → cond stopped [] w ++ take n out ≡ answersOf (joined (p .input)) → take n out ≡ answersOf (joined (p .input))
+    go none le all = sym (neither stopped) ∙ all
+    go (many h) le all = absurd (omega arith)
+
+-- "empty input prints nothing"
+pub empty-input : answersOf [] ≡ []
+unfolding answersOf through linesOf linesFrom concluded
+empty-input = refl

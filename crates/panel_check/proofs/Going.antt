@@ -1,0 +1,58 @@
+-- For the loop that takes the lines of a chunk: `start`, `on-line`, and the two ways out, `on-more` and `at-end`.
+use mathlib.Core.Path.{_≡_, refl, sym, ap, subst, _∙_}
+use mathlib.Core.List.{List, [], _++_, append-nil, append-assoc}
+use Prim.Native.Nat.{ℕ, _≤_}
+use lib.ListN.{length, take}
+use Rattle.lines.specs.declared.Cut.{Cut}
+use Rattle.lines.specs.declared.Cut.the-variants.{Line, More}
+use Rattle.lines.specs.Chunks.{Next}
+use Rattle.lines.proofs.Running.{Running, start as run-start, at-end as run-at-end, on-line as run-on-line, on-more as run-on-more}
+use Rattle.panel_check.specs.declared.State.{State}
+use Rattle.panel_check.specs.Telling.{after}
+use Rattle.panel_check.specs.Printing.{Spilled, none, standing, Takes, Done}
+use Rattle.panel_check.proofs.Standing.{spilled-both}
+
+module _ (chunk held₀ : List ℕ) (begun : ℕ) (r₀ : State) (out₀ : List ℕ) where
+  pub record Going (held : List ℕ) (at count : ℕ) (r : State) (out : List ℕ) : Type 0 where
+    pub written : List ℕ
+    pub spilled : Spilled written
+    pub running : (before : List ℕ) → Running after chunk held₀ begun (standing r₀ before out₀) held at count (standing r (before ++ written) out)
+    pub fits : r .used ≤ 65536
+
+  pub start : r₀ .used ≤ 65536 → begun ≤ 81 → Going held₀ 0 begun r₀ out₀
+  start h few = record {
+    written = [];
+    spilled = none;
+    running = λ before. subst (λ b. Running after chunk held₀ begun (standing r₀ before out₀) held₀ 0 begun (standing r₀ b out₀)) (sym (append-nil before)) (run-start after chunk held₀ begun (standing r₀ before out₀) few);
+    fits = h;
+  }
+
+  module _ {held : List ℕ} {at count : ℕ} {r : State} {out : List ℕ} (g : Going held at count r out) where
+    pub at-end : length chunk ≤ at → Done r₀ chunk held₀ begun out₀ (record { run = r; count = count }) held out
+    at-end h = record {
+      written = g .written;
+      spilled = g .spilled;
+      whole = λ before. run-at-end after chunk held₀ begun (standing r₀ before out₀) (g .running before) h .whole;
+      fits = g .fits;
+      few = g .running [] .few;
+    }
+
+    module _ {a : Cut} {held′ : List ℕ} (n : Next chunk at held count a held′) where
+      pub on-line : {k next : ℕ} {q : State} {out′ : List ℕ} → a ≡ Line k next → Takes r (take k held′) out q out′ → Going held′ next 0 q out′
+      on-line {k} {next} {q} {out′} e t = record {
+        written = g .written ++ t .written;
+        spilled = spilled-both (g .spilled) (t .spilled);
+        running = λ before.
+            run-on-line after chunk held₀ begun (standing r₀ before out₀) (g .running before) n e
+            (ap (λ b. standing q b out′) (sym (append-assoc before (g .written) (t .written))) ∙ t .told (before ++ g .written));
+        fits = t .fits;
+      }
+
+      pub on-more : {k : ℕ} → a ≡ More k → Done r₀ chunk held₀ begun out₀ (record { run = r; count = k }) held′ out
+      on-more {k} e = record {
+        written = g .written;
+        spilled = g .spilled;
+        whole = λ before. run-on-more after chunk held₀ begun (standing r₀ before out₀) (g .running before) n e .whole;
+        fits = g .fits;
+        few = run-on-more after chunk held₀ begun (standing r₀ [] out₀) (g .running []) n e .few;
+      }

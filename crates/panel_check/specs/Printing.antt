@@ -1,0 +1,84 @@
+-- How the program stands to what it is to print. The answers so far are those that were written out and, behind them, those that wait
+-- in front of a buffer `out`: they wait for the end of the input, and are written out before it only where there is no room for more.
+use mathlib.Core.Path.{_≡_}
+use mathlib.Core.Bool.{cond}
+use mathlib.Core.List.{List, [], _++_}
+use Prim.Native.Nat.{ℕ, _<_, _≤_}
+use lib.Dec.{leb}
+use lib.ListN.{length, take}
+use Rattle.sheet.specs.declared.Drawing.{Drawing}
+use Rattle.lines.specs.Runs.{ran, run, chunks, joined, through}
+use Rattle.lines.specs.Lines.{linesOf}
+use Rattle.panel_check.specs.declared.State.{State}
+use Rattle.panel_check.specs.declared.Held.{Held}
+use Rattle.panel_check.specs.Telling.{Told, start, checked, after, concluded, answersOf}
+
+-- the bytes written out before the end: none, or more than 65,500
+pub data Spilled : List ℕ → Type 0 where
+  none : Spilled []
+  many : {w : List ℕ} → 65500 < length w → Spilled w
+
+-- how many of the bytes used stay, so that there is room for an answer
+abbrev pub keptOf : ℕ → ℕ
+keptOf used = cond (leb used 65500) used 0
+
+-- the run r, with `written` written out and its other answers in front of out
+abbrev pub standing : State → List ℕ → List ℕ → Told
+standing r written out = record {
+  sketch = r .sketch;
+  begun = r .begun;
+  lines = r .lines;
+  stopped = r .stopped;
+  answers = written ++ take (r .used) out;
+}
+
+-- the answer to d stands behind the first `used` bytes of out; what is not in front of out′ was written out
+pub record Answers (d : Drawing) (used : ℕ) (out : List ℕ) (n : ℕ) (out′ : List ℕ) : Type 0 where
+  pub written : List ℕ
+  pub spilled : Spilled written
+  pub within : length written ≤ used
+  pub all : written ++ take n out′ ≡ take used out ++ checked d
+  pub fits : n ≤ 65536
+
+-- q and out′ are r and out after a line, whatever was written out before
+pub record Takes (r : State) (line out : List ℕ) (q : State) (out′ : List ℕ) : Type 0 where
+  pub written : List ℕ
+  pub spilled : Spilled written
+  pub told : (before : List ℕ) → standing q (before ++ written) out′ ≡ after (standing r before out) line
+  pub fits : q .used ≤ 65536
+
+-- the same for the lines of a chunk, behind the first `count` bytes held
+pub record Done (r : State) (chunk held : List ℕ) (count : ℕ) (out : List ℕ) (q : Held) (held′ out′ : List ℕ) : Type 0 where
+  pub written : List ℕ
+  pub spilled : Spilled written
+  pub whole : (before : List ℕ) → ran (standing (q .run) (before ++ written) out′) (take (q .count) held′) ≡ run after (standing r before out) (take count held) chunk
+  pub fits : q .run .used ≤ 65536
+  pub few : q .count ≤ 81
+
+-- the run and the bytes held are those of some chunks, read from the start
+pub record Read (q : Held) (held out : List ℕ) : Type 0 where
+  pub input : List (List ℕ)
+  pub written : List ℕ
+  pub spilled : Spilled written
+  pub gives : chunks after (ran start []) input ≡ ran (standing (q .run) written out) (take (q .count) held)
+  pub fits : q .run .used ≤ 65536
+  pub few : q .count ≤ 81
+
+-- The end of a run: what is written out by now, and the first n bytes of out′, are all that is to be printed; where a line was
+-- unreadable, those n bytes alone are. Nothing is written out but answers to drawings before.
+pub record Ends (t : List ℕ → Told) (n : ℕ) (out′ : List ℕ) : Type 0 where
+  pub written : List ℕ
+  pub spilled : Spilled written
+  pub within : (before : List ℕ) → length (before ++ written) ≤ length (t before .answers)
+  pub all : (before : List ℕ) → cond (t before .stopped) [] (before ++ written) ++ take n out′ ≡ concluded (t before)
+  pub fits : n ≤ 65536
+
+-- Of some input, the first n bytes of out are the last that is printed: the whole answer, unless more than 65,500 bytes of answers were
+-- written out before. These are in front of it; or, where a later line was unreadable, stay from before it.
+pub record Printed (n : ℕ) (out : List ℕ) : Type 0 where
+  pub input : List (List ℕ)
+  pub written : List ℕ
+  pub spilled : Spilled written
+  pub within : length written ≤ length (through after start (linesOf (joined input)) .answers)
+  pub all : cond (through after start (linesOf (joined input)) .stopped) [] written ++ take n out ≡ answersOf (joined input)
+  pub fits : n ≤ 65536
