@@ -53,8 +53,8 @@ fn act_on(d: Drawing, act: Act, x: i32, y: i32, size: i32, t: Tally) -> Edited
     finished(d, t, e)
 }
 
-// "Delete." Two wrong answers that this rules out: contacts turned and all else left (delete_turns), and a square about (y, x)
-// (pointer_mirrored).
+// "Delete." Two wrong answers that this rules out: the drawing received with reply 0 (drawing_untouched), and a tally brought up to date
+// by a refusal (refusal_fills_the_tally).
 pub fn delete_on(d: Drawing, x: i32, y: i32, size: i32, t: Tally) -> Edited
     requires { ⌜ Lawful d ⌝ }
     ensures { λ r. ⌜ r ≡ Calls.deleteAt d x y size t ⌝ }
@@ -71,8 +71,8 @@ pub fn rotate_on(d: Drawing, x: i32, y: i32, size: i32, t: Tally) -> Edited
     act_on(d, Act::TurnRight, x, y, size, t)
 }
 
-// "Turn right, mirror.", the mirror. Two wrong answers that this rules out: contacts turned right (mirror_turns), and the drawing received with reply 0
-// (drawing_untouched).
+// "Turn right, mirror.", the mirror. Two wrong answers that this rules out: contacts turned right (mirror_turns), and as many told as lost as
+// were hit (lost_invented).
 pub fn mirror_on(d: Drawing, x: i32, y: i32, size: i32, t: Tally) -> Edited
     requires { ⌜ Lawful d ⌝ }
     ensures { λ r. ⌜ r ≡ Calls.mirrorAt d x y size t ⌝ }

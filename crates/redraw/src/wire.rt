@@ -11,7 +11,7 @@ use sheet::Drawing;
 use sheet::Tally;
 
 // "Wire."; vertical: line is its x, start and end are its y; else the other way round. Two wrong answers that this rules out: a wire
-// acknowledged and not drawn (wire_only_acknowledged), and 2 where a coordinate is outside its range (two_before_one).
+// acknowledged and not drawn (wire_only_acknowledged), and the tally received after reply 0 (tally_untouched).
 pub fn add_wire_on(d: Drawing, vertical: bool, line: i32, start: i32, end: i32, t: Tally) -> Edited
     requires { ⌜ Lawful d ⌝ }
     ensures { λ r. ⌜ r ≡ Calls.addWire d vertical line start end t ⌝ }
