@@ -15,7 +15,7 @@ use Rattle.check_script.specs.declared.Said.the-variants.{Unreadable}
 use Rattle.check_script.specs.Reading.{saidOf}
 use Rattle.check_script.proofs.Lines.{said-81, too-long}
 use Rattle.sketch.specs.Sketches.{notHeld, addedOf}
-use Rattle.lines.specs.Lines.{linesFrom, linesOf}
+use Rattle.lines.specs.Lines.{linesOf}
 use Rattle.lines.specs.Runs.{ran, joined, through, finish}
 use Rattle.lines.proofs.Runs.{in-chunks}
 use Rattle.panel_check.specs.declared.State.{State}
@@ -133,8 +133,3 @@ at-once {n} {out} p few = go (p .spilled) (p .within) (p .all)
     go : {w : List ℕ} → Spilled w → length w ≤ length (through after start (linesOf (joined (p .input))) .answers) → cond stopped [] w ++ take n out ≡ answersOf (joined (p .input)) → take n out ≡ answersOf (joined (p .input))
     go none le all = sym (neither stopped) ∙ all
     go (many h) le all = absurd (omega arith)
-
--- "empty input prints nothing"
-pub empty-input : answersOf [] ≡ []
-unfolding answersOf through linesOf linesFrom concluded
-empty-input = refl
