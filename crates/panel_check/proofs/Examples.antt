@@ -5,7 +5,7 @@ use Prim.Native.String.{String}
 use Rattle.text.specs.Text.{digitsIn, decimalOf}
 use Rattle.script.specs.Grammar.{bytes}
 use Rattle.script.specs.Reading.{digitsOf, wholeOf, signedOf, numberOf, fieldOf}
-use Rattle.check_script.specs.Reading.{ranged, heldOf, letterOf, directionOf, wireOf, jointOf, rowOf, countedOf, countOf, lineOf, saidOf}
+use Rattle.check_script.specs.Reading.{fitted, heldOf, letterOf, directionOf, wireOf, jointOf, rowOf, countedOf, countOf, lineOf, saidOf}
 use Rattle.sketch.specs.Sketches.{emptySketch, addedOf}
 use Rattle.lines.specs.Lines.{linesFrom, linesOf}
 use Rattle.lines.specs.Runs.{through}
@@ -25,7 +25,7 @@ unreadables =
     ∷ []
 
 told-alone : map (λ e. answersOf (bytes (e .0))) unreadables ≡ map (λ e. bytes (e .1)) unreadables
-unfolding unreadables answersOf concluded after through linesOf linesFrom unreadableOf decimalOf digitsIn addedOf digitsOf wholeOf signedOf numberOf fieldOf ranged heldOf letterOf directionOf wireOf jointOf rowOf countedOf countOf lineOf saidOf
+unfolding unreadables answersOf concluded after through linesOf linesFrom unreadableOf decimalOf digitsIn addedOf digitsOf wholeOf signedOf numberOf fieldOf fitted heldOf letterOf directionOf wireOf jointOf rowOf countedOf countOf lineOf saidOf
 told-alone = refl
 
 -- a drawing of no line is answered at its `.`, with or without a newline
