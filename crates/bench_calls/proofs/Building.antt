@@ -1,7 +1,7 @@
 -- Each drawing that is built is lawful.
 use Prim.Native.Nat.{ℕ, zero, suc, _+_, _*_}
 use native.Mathlib.Omega.{arith}
-use mathlib.Core.List.{List, [], List·Memᴰ·not-nil as ∈-nil}
+use mathlib.Core.List.{List}
 use mathlib.Core.Path.{_≡_, refl, sym, ap, subst, _∙_}
 use borrow.Author.Tests.{eq-eqb, ne-eqb}
 use lib.Dec.{eqb}
@@ -9,38 +9,17 @@ use lib.IntN.{ℤ}
 use lib.ListN.{getD}
 use mir.Syntax.{w32}
 use mir.Val.{SFits}
-use Rattle.lists.specs.Lists.{_∈_}
 use Rattle.lists.proofs.Tests.{choose, eqb-reads}
-use Rattle.lists.proofs.Tables.{holds-list, holds-self, holds-count}
-use Rattle.sheet.specs.declared.Component.{Component}
-use Rattle.sheet.specs.declared.Wires.{Wires}
-use Rattle.sheet.specs.declared.Components.{Components}
 use Rattle.sheet.specs.declared.Drawing.{Drawing}
-use Rattle.sheet.specs.Drawings.{Sheet, emptySheet, drawn}
+use Rattle.sheet.specs.Drawings.{emptySheet, drawn}
 use Rattle.sheet.specs.Rules.{Lawful}
 use Rattle.sheet.proofs.Edits.{empty-good}
 use Rattle.sheet.proofs.Rules.{drawn-lawful}
-use Rattle.wires.specs.Tables.{Tabled}
-use Rattle.parts.specs.Tables.{TabledParts}
-use Rattle.joints.specs.Tables.{sheetOf, Sound}
 use Rattle.asked.proofs.Handed.{bits, handed-three}
 use Rattle.redraw.specs.declared.Edited.{Edited}
 use Rattle.bench_calls.specs.Numbered.{editOf}
 use Rattle.bench_calls.specs.Timed.{tallyOf, nextOf, numberAt, builtBy}
 use Rattle.bench_calls.proofs.Numbers.{edit-accepted}
-
--- ---- the empty drawing
-
-module _ {ws : Wires} {cs : Components} (w : Tabled [] ws) (p : TabledParts [] cs) where
-  pub blank-sound : Sound ws cs
-  blank-sound = record {
-    wires = holds-self w;
-    parts = holds-self p;
-    fits = record { room = holds-count p; each = λ c m. absurd (∈-nil (subst (λ (l : List Component). c ∈ l) (holds-list p) m)) };
-  }
-
-  pub blank-sheet : sheetOf ws cs ≡ emptySheet
-  blank-sheet = λ i. record { wires = holds-list w i; parts = holds-list p i }
 
 -- ---- one edit
 

@@ -11,10 +11,9 @@ ghost use Rattle.sheet.specs.Rules.{Lawful};
 ghost use Rattle.bench_calls.specs.Timed.{nextOf, builtBy, answerOf, again};
 use crate::answers::answer;
 use crate::edits::edit_on;
-use parts::no_parts;
 use sheet::Drawing;
 use sheet::Tally;
-use wires::no_wires;
+use step::empty_drawing;
 
 // The byte at a place, and 0 past the end.
 fn byte_at(bytes: &[u8], i: usize) -> u8
@@ -28,15 +27,6 @@ fn number_at(numbers: &[i32], i: usize) -> i32
     ensures { λ r. ⌜ r ≡ getD (now (numbers .entry)) i (pos 0) ⌝ }
 {
     if i < numbers.len() { numbers[i] } else { 0 }
-}
-
-// The empty drawing.
-fn empty() -> Drawing
-    ensures { λ r. ⌜ r ≡ drawn emptySheet ⌝ }
-{
-    let ws = no_wires();
-    let cs = no_parts();
-    joints::drawn(ws, cs)
 }
 
 // The drawing after an edit; one that is refused leaves it as it was.
@@ -62,7 +52,7 @@ fn next(d: Drawing, what: u8, x: i32, y: i32, z: i32) -> Drawing
 fn built(whats: &[u8], numbers: &[i32], count: u32) -> Drawing
     ensures { λ r. ⌜ r ≡ builtBy (now (whats .entry)) (now (numbers .entry)) count ⌝ }
 {
-    let mut d = empty();
+    let mut d = empty_drawing();
     let mut i: u32 = 0;
     while i < count {
         let n = i as usize;

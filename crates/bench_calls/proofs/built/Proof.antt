@@ -17,11 +17,11 @@ Inv-loop whats numbers count d₀ i₀ d i = (i ≤ count) × (d ≡ builtBy wha
 abbrev μ-loop : tie.MeasureT-loop
 μ-loop whats numbers count d₀ i₀ d i = count - i
 
-empty-requires : tie.Need-empty-requires Inv-loop μ-loop
-empty-requires c κs = search needs
+empty-drawing-requires : tie.Need-empty-drawing-requires Inv-loop μ-loop
+empty-drawing-requires c κs = search needs
 
 loop-holds : tie.Need-loop-holds Inv-loop μ-loop
-loop-holds c = (omega arith, built-none _ _ (c .empty .ensures))
+loop-holds c = (omega arith, built-none _ _ (c .empty-drawing .ensures .0))
 
 cast-n : tie.Need-cast-n Inv-loop μ-loop
 cast-n c = search needs
@@ -82,7 +82,7 @@ built-spec =
     (tie.spec
     Inv-loop
     μ-loop
-    empty-requires
+    empty-drawing-requires
     loop-holds
     cast-n
     byte-at-requires
