@@ -42,6 +42,7 @@ fn main() {
         eprintln!("{size} wires timed, drawn by {} edits", script.len());
     }
     table.print();
+    table.print_times("check, plain", "check");
 }
 
 /// Once for each call, on the smallest drawing.

@@ -1,4 +1,5 @@
-//! The times as tables, in microseconds: the median over the places at each size, the worst at the largest, and the growth.
+//! The times as tables: the median over the places at each size, the worst at the largest, and the growth. In microseconds where the
+//! Rust's stand beside them, in nanoseconds where ours stand alone.
 
 /// The sizes between which growth is told.
 const FROM: usize = 128;
@@ -33,6 +34,10 @@ fn spread(times: &[f64]) -> Spread {
     Spread { median: times[times.len() / 2], worst: times[times.len() - 1] }
 }
 
+fn nanoseconds(time: f64) -> String {
+    format!("{:.0}", time * 1000.0)
+}
+
 /// Three digits, whatever the number.
 fn shown(time: f64) -> String {
     let places = (2.0 - time.log10().floor()).clamp(0.0, 3.0) as usize;
@@ -53,8 +58,16 @@ impl Table {
         println!("| µs: ours / the Rust = ratio | 64 | 128 | 256 | 512 | worst at 512 | growth |");
         println!("|---|---|---|---|---|---|---|");
         self.rows.iter().filter(|row| row.is_both()).for_each(Row::print);
-        println!("\n| µs: ours | 64 | 128 | 256 | 512 | worst at 512 | growth |\n|---|---|---|---|---|---|---|");
+        println!("\n| ns: ours | 64 | 128 | 256 | 512 | worst at 512 | growth |\n|---|---|---|---|---|---|---|");
         self.rows.iter().filter(|row| !row.is_both()).for_each(Row::print);
+    }
+
+    /// How many times as long one call takes as another, at each size.
+    pub fn print_times(&self, slow: &str, fast: &str) {
+        let row = |name| self.rows.iter().find(|row| row.name == name).expect("a call that was timed");
+        let both = row(slow).cells.iter().zip(&row(fast).cells);
+        let times = both.map(|(slow, fast)| format!("{:.0} at {}", slow.ours.median / fast.ours.median, slow.size));
+        println!("\n{slow}, in times of {fast}: {}", times.collect::<Vec<_>>().join(", "));
     }
 }
 
@@ -71,11 +84,12 @@ impl Row {
                     let ratio = shown(ours.median / theirs.median);
                     format!(" {} / {} = {ratio} |", shown(ours.median), shown(theirs.median))
                 }
-                None => format!(" {} |", shown(ours.median)),
+                None => format!(" {} |", nanoseconds(ours.median)),
             };
         }
         let last = self.cells.last().expect("every call is timed at every size");
-        let worst = [Some(last.ours), last.theirs].into_iter().flatten().map(|side| shown(side.worst));
+        let unit = if self.is_both() { shown } else { nanoseconds };
+        let worst = [Some(last.ours), last.theirs].into_iter().flatten().map(|side| unit(side.worst));
         let growth = [self.growth(|cell| Some(cell.ours)), self.growth(|cell| cell.theirs)];
         let growth = growth.into_iter().flatten().map(|power| format!("n^{power:.2}"));
         println!("{line} {} | {} |", worst.collect::<Vec<_>>().join(" / "), growth.collect::<Vec<_>>().join(" / "));
