@@ -3,6 +3,7 @@
 mod clock;
 mod ours;
 mod script;
+mod shapes;
 mod table;
 mod theirs;
 
@@ -10,6 +11,7 @@ use oracle::original::rows_of;
 use oracle::script::Edit;
 use ours::{Call, Ours};
 use script::{numbered, sizes, Board, EditKind, Numbered};
+use shapes::shapes;
 use table::Table;
 
 const SIZES: [usize; 4] = [64, 128, 256, 512];
@@ -43,6 +45,23 @@ fn main() {
     }
     table.print();
     table.print_times("check, plain", "check");
+    time_shapes();
+}
+
+/// Both forms of the check on full drawings of other shapes.
+fn time_shapes() {
+    println!("\n| full drawing | wires | joints | check, plain, ns | check, ns | times |\n|---|---|---|---|---|---|");
+    for shape in shapes() {
+        let ours = Ours::new(&shape.edits);
+        let time = |call| {
+            assert_eq!(ours.answer(call, Numbered::NONE), 0, "{} is lawful", shape.name);
+            ours.time(call, Numbered::NONE)
+        };
+        let joints = ours.answer(Call::CountJoints, Numbered::NONE);
+        let wires = ours.answer(Call::Merge, Numbered::NONE);
+        let (plain, fast) = (time(Call::CheckPlainly), time(Call::Check));
+        println!("| {} | {wires} | {joints} | {plain:.0} | {fast:.0} | {:.0} |", shape.name, plain / fast);
+    }
 }
 
 /// Once for each call, on the smallest drawing.

@@ -4,24 +4,34 @@ use native.Mathlib.Omega.{arith}
 use mathlib.Core.Bool.{Bool, true, false, cond}
 use mathlib.Core.List.{List, [], _∷_, _++_, map, map-append, append-assoc, append-nil}
 use mathlib.Core.Path.{_≡_, refl, sym, ap, ap₂, subst, _∙_}
-use lib.ListN.{length, take, getD, set, length-set, length-append}
+use lib.ListN.{length, take, getD, set, length-set, length-take, length-append}
+use lib.Seq.{getD-take}
 use Rattle.lists.specs.Lists.{keep}
 use Rattle.lists.proofs.Tables.{take-push}
 use Rattle.lists.proofs.Passes.{take-more}
+use Rattle.lists.proofs.Finding.{maps-at}
 use Rattle.symbol.specs.declared.Point.{Point}
 use Rattle.sheet.specs.declared.Wire.{Wire}
+use Rattle.sheet.specs.declared.Joints.{Joints}
 use Rattle.sheet.specs.Points.{same}
 use Rattle.sheet.specs.Lines.{ends, marks}
-use Rattle.sheet.specs.Joints.{number, jointsOf}
+use Rattle.sheet.specs.Joints.{place, number, jointsOf}
+use Rattle.sheet.specs.Drawings.{zeroJoint, jointRows}
 use Rattle.sheet.proofs.JointRows.{length-ends, joints-same}
 use Rattle.sheet.proofs.Points.{point-path}
 use Rattle.joints.specs.declared.sort.Keys.{Keys}
 use Rattle.joints.specs.Sorting.{keyRows, Same}
-use Rattle.joints.specs.Keys.{spot, Keyed}
+use Rattle.joints.specs.Keys.{spot, Keyed, KeysOf}
 
 -- the point of a key is the point that the key was made of
 pub key-spot : (p : Point) → p .x < 65536 → spot (p .y * 65536 + p .x) ≡ p
 key-spot p h = point-path (omega arith) (omega arith)
+
+-- the key of a joint row
+pub keys-at : {js : Joints} {keys : List ℕ} → KeysOf js keys → js .count ≤ 1408 → (m : ℕ) → m < js .count → spot (getD keys m 0) ≡ place (getD (jointRows js) m zeroJoint)
+keys-at {js} {keys} h room m g =
+    ap spot (sym (getD-take (js .count) keys m 0 g))
+    ∙ maps-at spot place (take (js .count) keys) (jointRows js) (h .spots) m 0 zeroJoint (omega (arith, length-take (js .count) keys, h .size))
 
 -- the table with one key more
 abbrev pub pushed : Keys → ℕ → Keys

@@ -5,8 +5,9 @@ ghost use Prim.Native.Nat.{_≤_};
 ghost use Rattle.sheet.specs.Lines.{ends, marks};
 ghost use Rattle.sheet.specs.Drawings.{wireRows};
 ghost use Rattle.wires.specs.Tables.{pointRows};
-ghost use Rattle.joints.specs.Keys.{spot, Keyed};
+ghost use Rattle.joints.specs.Keys.{spot, Keyed, KeysOf};
 use crate::sort::Keys;
+use sheet::Joints;
 use sheet::Wires;
 use symbol::Point;
 use wires::Points;
@@ -19,6 +20,23 @@ pub fn key(p: Point) -> u32
     ensures { λ r. ⌜ spot r ≡ p ⌝ }
 {
     (p.y as u32) * 65536 + (p.x as u32)
+}
+
+// The key of each joint, in row order.
+pub fn joint_keys(js: Joints) -> [u64; 1408]
+    requires { ⌜ js .count ≤ 1408 ⌝ }
+    ensures { λ r. ⌜ KeysOf js r ⌝ }
+{
+    let n = js.count;
+    let mut keys = [0u64; 1408];
+    let mut i = 0;
+    while i < n {
+        let j = js.rows[i];
+        let p = Point { x: j.x, y: j.y };
+        keys[i] = key(p) as u64;
+        i += 1;
+    }
+    keys
 }
 
 fn no_keys() -> Keys
@@ -48,7 +66,7 @@ fn end_keys(ws: Wires) -> Keys
 }
 
 // The keys of all wire ends and pads.
-pub(crate) fn mark_keys(ws: Wires, pads: Points) -> Keys
+pub fn mark_keys(ws: Wires, pads: Points) -> Keys
     requires { ⌜ (ws .count ≤ 512) × (pads .count ≤ 384) ⌝ }
     ensures { λ r. ⌜ Keyed (marks (wireRows ws) (pointRows pads)) r ⌝ }
 {

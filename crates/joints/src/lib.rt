@@ -1,7 +1,7 @@
 // The joints of a drawing, counted from its wire ends and pads: each point as one number, sorted, and equal ones gathered.
 pub mod keys;
 mod rows;
-mod sort;
+pub mod sort;
 pub mod tally;
 
 ghost use mathlib.Core.Path.{_≡_};

@@ -1,4 +1,3 @@
-pub mod Walked
 pub mod Rows
 pub mod Ordered
 pub mod Linking

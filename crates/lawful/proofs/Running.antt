@@ -22,7 +22,7 @@ use Rattle.sheet.proofs.Points.{same-reads, rise-self, rise-asym}
 use Rattle.sheet.proofs.Lines.{same-dir, along-point, across-point}
 use Rattle.rules.specs.Steps.{goesOn}
 use Rattle.lawful.specs.Looks.{Chained, Clear, Run, done, more, Runs, clears}
-use Rattle.lawful.proofs.Walked.{table-at, table-place}
+use Rattle.lists.proofs.Finding.{table-at, table-place}
 use Rattle.lawful.proofs.Rows.{true-reads}
 
 -- ---- the test

@@ -1,14 +1,9 @@
 -- Where all that the fast check looks at is right, the drawing is lawful.
-use Prim.Native.Nat.{_-_, _≤_}
-use native.Mathlib.Omega.{arith}
 use mathlib.Core.Bool.{Bool, true, false, _&&_}
 use mathlib.Core.List.{List}
 use mathlib.Core.Path.{_≡_, refl, sym, ap, subst, _∙_}
 use lib.Dec.{T}
-use lib.ListN.{length, length-append, length-take, replicate}
-use lib.Seq.{take-append-seam}
 use Rattle.lists.specs.Lists.{_∈_, Rows, links}
-use Rattle.lists.specs.Tables.{pad}
 use Rattle.lists.proofs.Tests.{holds, and-reads}
 use Rattle.lists.proofs.Lists.{links-reads}
 use Rattle.symbol.specs.declared.Point.{Point}
@@ -17,14 +12,15 @@ use Rattle.sheet.specs.declared.Wires.{Wires}
 use Rattle.sheet.specs.declared.Joint.{Joint}
 use Rattle.sheet.specs.declared.Joints.{Joints}
 use Rattle.sheet.specs.declared.Drawing.{Drawing}
-use Rattle.sheet.specs.Lines.{ends, marks, Follows, Before, tip, high}
-use Rattle.sheet.specs.Joints.{jointsOf, Rising}
+use Rattle.sheet.specs.Lines.{marks, Follows, Before, tip, high}
+use Rattle.sheet.specs.Points.{rises}
+use Rattle.sheet.specs.Joints.{place, jointsOf, Rising}
 use Rattle.sheet.specs.Parts.{position, padsOf, ahead}
-use Rattle.sheet.specs.Drawings.{Sheet, zeroJoint, wireRows, jointRows, jointTable, listsOf, marksOf, Sized}
+use Rattle.sheet.specs.Drawings.{Sheet, wireRows, jointRows, listsOf, marksOf, Sized}
 use Rattle.sheet.specs.Wiring.{AllFit, Held, Wired}
 use Rattle.sheet.specs.Rules.{Rule2, Rule3, Rule5, Lawful}
 use Rattle.sheet.proofs.Points.{rises-reads, rise-chain}
-use Rattle.sheet.proofs.JointRows.{rules-6-7, joints-rising, length-joints, length-ends}
+use Rattle.sheet.proofs.JointRows.{rules-6-7, joints-rising}
 use Rattle.sheet.proofs.RowOrder.{rules-2-7}
 use Rattle.sheet.proofs.Rules.{wired-rules}
 use Rattle.wires.specs.declared.Points.{Points}
@@ -40,17 +36,6 @@ use Rattle.lawful.proofs.Seen.{none-inside, held-apart}
 either : (v : Bool) (P : Bool → Type 0) → P false → P true → P v
 either true P f t = t
 either false P f t = f
-
--- ---- the joints of a table
-
-pub joints-fit : (ws : Wires) (ps : Points) {js : Joints} → ws .count ≤ 512 → ps .count ≤ 384 → js ≡ jointTable (jointsOf (marks (wireRows ws) (pointRows ps))) → js .count ≤ 1408
-joints-fit ws ps {js} h k e =
-    let size : js .count ≡ length (jointsOf (marks (wireRows ws) (pointRows ps))) = ap (λ (t : Joints). t .count) e in
-    omega (arith, length-joints (marks (wireRows ws) (pointRows ps)), length-append (ends (wireRows ws)) (pointRows ps), length-ends (wireRows ws), length-take (ws .count) (ws .rows), length-take (ps .count) (ps .rows))
-
-table-rows : {js : Joints} (xs : List Joint) → js ≡ jointTable xs → jointRows js ≡ xs
-unfolding pad
-table-rows xs e = ap jointRows e ∙ take-append-seam xs (replicate (1408 - length xs) zeroJoint)
 
 -- ---- wires
 
@@ -71,14 +56,20 @@ wired {ws} ps {js} fits t e level up = record { clean = record { fits = fits; or
     anchored a b m n g = either (a .vertical) (λ v. a .vertical ≡ v → Held ws ps (a .vertical) (tip high a)) (held-apart ps false e level fits two order a b m n g) (held-apart ps true e up fits two order a b m n g) refl
 
 -- what the looks at the wires answer
-module _ (ws : Wires) (pads : Points) {js : Joints} (e : js ≡ jointTable (jointsOf (marks (wireRows ws) (pointRows pads)))) where
+module _ (ws : Wires) (pads : Points) (js : Joints) (e : jointRows js ≡ jointsOf (marks (wireRows ws) (pointRows pads))) where
   pub joints-rise : Rising (jointRows js)
-  joints-rise = subst Rising (sym (table-rows (jointsOf (marks (wireRows ws) (pointRows pads))) e)) (joints-rising (marks (wireRows ws) (pointRows pads)))
+  joints-rise = subst Rising (sym e) (joints-rising (marks (wireRows ws) (pointRows pads)))
 
   pub wires-sound : {a b c : Bool} → a ≡ links before (wireRows ws) → (b ≡ true → Runs false (jointRows js) (wireRows ws)) → (c ≡ true → Runs true (jointRows js) (wireRows ws)) → (a && (b && c)) ≡ true → AllFit (wireRows ws) → Wired (wireRows ws) (pointRows pads)
   wires-sound {a} {b} {c} p q r t fits =
       let k = holds (and-reads (true-reads a) (and-reads (true-reads b) (true-reads c))) (subst T (sym t) tt) in
-      wired (pointRows pads) fits (subst T (sym (sym p ∙ k .0)) tt) (table-rows (jointsOf (marks (wireRows ws) (pointRows pads))) e) (q (k .1 .0)) (r (k .1 .1))
+      wired (pointRows pads) fits (subst T (sym (sym p ∙ k .0)) tt) e (q (k .1 .0)) (r (k .1 .1))
+
+-- ---- joints
+
+-- rows of which each and the next rise, rise
+pub rows-rise : (js : List Joint) → T (links (λ i j. rises (place i) (place j)) js) → Rising js
+rows-rise js t = rise-chain place .1 (holds (links-reads (λ i j. rises-reads (place i) (place j)) js) t)
 
 -- ---- the drawing
 
@@ -86,13 +77,13 @@ module _ (d : Drawing) (z : Sized d) (one : check1 d ≡ true) (pads : Points) w
   abbrev s : Sheet
   s = listsOf d
 
-  pub all-sound : {js : Joints} {a b c e : Bool} → pointRows pads ≡ padsOf (s .parts) → js ≡ jointTable (jointsOf (marks (s .wires) (pointRows pads))) → (a ≡ true → jointRows (d .joints) ≡ jointRows js) → b ≡ links ahead (s .parts)
-      → (c ≡ true → T (links ahead (s .parts)) → Rule5 (s .parts)) → (e ≡ true → AllFit (s .wires) → Wired (s .wires) (pointRows pads)) → ((a && b) && (c && e)) ≡ true → Lawful d
-  all-sound {js} {a} {b} {c} {e} f g p q r w t =
-      let k = holds (and-reads (and-reads (true-reads a) (true-reads b)) (and-reads (true-reads c) (true-reads e))) (subst T (sym t) tt) in
-      let rise : T (links ahead (s .parts)) = subst T (sym (sym q ∙ k .0 .1)) tt in
+  pub all-sound : {b c e : Bool} → pointRows pads ≡ padsOf (s .parts) → jointRows (d .joints) ≡ jointsOf (marks (s .wires) (pointRows pads)) → b ≡ links ahead (s .parts)
+      → (c ≡ true → T (links ahead (s .parts)) → Rule5 (s .parts)) → (e ≡ true → AllFit (s .wires) → Wired (s .wires) (pointRows pads)) → (b && (c && e)) ≡ true → Lawful d
+  all-sound {b} {c} {e} f p q r w t =
+      let k = holds (and-reads (true-reads b) (and-reads (true-reads c) (true-reads e))) (subst T (sym t) tt) in
+      let rise : T (links ahead (s .parts)) = subst T (sym (sym q ∙ k .0)) tt in
       let first = holds (reads1 d z) (subst T (sym one) tt) in
-      let j = rules-6-7 (jointRows (d .joints)) (marksOf s) .1 (p (k .0 .0) ∙ table-rows (jointsOf (marks (s .wires) (pointRows pads))) g ∙ ap (λ (ps : List Point). jointsOf (marks (s .wires) ps)) f) in
+      let j = rules-6-7 (jointRows (d .joints)) (marksOf s) .1 (p ∙ ap (λ (ps : List Point). jointsOf (marks (s .wires) ps)) f) in
       let v = wired-rules (s .wires) (padsOf (s .parts)) .0 (subst (Wired (s .wires)) f (w (k .1 .1) (first .wires-fit))) in
       record {
         rule1 = first;

@@ -2,7 +2,6 @@
 // looked at counts. Where anything is off, the plain check names the rule.
 mod boxes;
 mod columns;
-mod listed;
 mod order;
 mod runs;
 
@@ -11,21 +10,21 @@ ghost use mathlib.Core.Bool.{true};
 ghost use Prim.Native.Nat.{_≤_};
 ghost use Rattle.sheet.specs.Lines.{marks};
 ghost use Rattle.sheet.specs.Joints.{jointsOf};
-ghost use Rattle.sheet.specs.Drawings.{wireRows, jointTable};
+ghost use Rattle.sheet.specs.Drawings.{wireRows, jointRows};
 ghost use Rattle.sheet.specs.Wiring.{AllFit, Wired};
 ghost use Rattle.sheet.specs.Rules.{Lawful};
 ghost use Rattle.wires.specs.Tables.{pointRows};
 ghost use Rattle.rules.specs.Check.{checkOf};
 use crate::boxes::none_touch;
-use crate::listed::same_rows;
 use crate::order::wires_in_order;
 use crate::runs::levels_clear;
 use crate::runs::uprights_clear;
-use joints::count_joints;
+use joint_check::joints_listed;
 use parts::pads::all_pads;
 use rules::Checked;
 use rules::limits::within_limits;
 use rules::order::components_rise;
+use rules::order::joints_rise;
 use sheet::Drawing;
 use sheet::Joints;
 use sheet::Wires;
@@ -33,10 +32,21 @@ use wires::Points;
 
 // Rules 2 to 4 and 7 of wires hold.
 fn wires_right(ws: Wires, pads: Points, js: Joints) -> bool
-    requires { ⌜ (ws .count ≤ 512) × ((pads .count ≤ 384) × (js ≡ jointTable (jointsOf (marks (wireRows ws) (pointRows pads))))) ⌝ }
+    requires { ⌜ (ws .count ≤ 512) × ((js .count ≤ 1408) × (jointRows js ≡ jointsOf (marks (wireRows ws) (pointRows pads)))) ⌝ }
     ensures { λ r. ⌜ (r ≡ true → AllFit (wireRows ws) → Wired (wireRows ws) (pointRows pads)) ⌝ }
 {
     wires_in_order(ws) & (levels_clear(ws, js) & uprights_clear(ws, js))
+}
+
+// Rules 6 and 7 of joints hold.
+fn joints_right(js: Joints, ws: Wires, pads: Points) -> bool
+    requires { ⌜ (js .count ≤ 1408) × ((ws .count ≤ 512) × (pads .count ≤ 384)) ⌝ }
+    ensures { λ r. ⌜ (r ≡ true → jointRows js ≡ jointsOf (marks (wireRows ws) (pointRows pads))) ⌝ }
+{
+    if !joints_rise(js) {
+        return false;
+    }
+    joints_listed(js, ws, pads)
 }
 
 // Only a lawful drawing passes.
@@ -50,8 +60,10 @@ fn all_right(d: Drawing) -> bool
     let cs = d.components;
     let rows = d.joints;
     let pads = all_pads(cs);
-    let js = count_joints(ws, pads);
-    (same_rows(rows, js) & components_rise(cs)) & (none_touch(cs) & wires_right(ws, pads, js))
+    if !joints_right(rows, ws, pads) {
+        return false;
+    }
+    components_rise(cs) & (none_touch(cs) & wires_right(ws, pads, rows))
 }
 
 // The first broken rule of a drawing, or 0; for rule 5 the two rows whose boxes share a point.

@@ -5,3 +5,4 @@ pub mod Walks
 pub mod Passes
 pub mod Places
 pub mod Somes
+pub mod Finding

@@ -1,4 +1,3 @@
-pub mod Chaining
 pub mod Coding
 pub mod Flagging
 pub mod Merging

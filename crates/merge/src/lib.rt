@@ -1,5 +1,4 @@
 // Wires in line become one where nothing holds them apart.
-mod chains;
 mod codes;
 mod held;
 
@@ -19,12 +18,6 @@ use wires::no_wires;
 pub struct Numbers {
     pub rows: [u64; 1408],
     pub count: usize,
-}
-
-// The last place of each key, and for each place the one before it with its key; both plus one, and 0 for none.
-pub struct Index {
-    pub last: [u16; 4096],
-    pub before: [u16; 1408],
 }
 
 // b goes on in line where a ends.

@@ -4,8 +4,7 @@ use native.Mathlib.Omega.{arith}
 use mathlib.Core.List.{List}
 use mathlib.Core.Path.{_≡_, sym, ap, subst, _∙_}
 use mathlib.Core.Logic.{_⊎_, inl, inr}
-use lib.ListN.{length, getD, take, length-take}
-use lib.Seq.{getD-take}
+use lib.ListN.{length, getD, length-take}
 use Rattle.lists.specs.Lists.{_∈_}
 use Rattle.lists.proofs.Tests.{compare}
 use Rattle.symbol.specs.declared.Point.{Point}
@@ -13,11 +12,12 @@ use Rattle.sheet.specs.declared.Joints.{Joints}
 use Rattle.sheet.specs.Points.{Rise, lower, level}
 use Rattle.sheet.specs.Joints.{place}
 use Rattle.sheet.specs.Drawings.{jointRows, zeroJoint}
-use Rattle.joints.specs.Keys.{spot}
+use Rattle.joints.specs.Keys.{spot, KeysOf}
+use Rattle.joints.proofs.Keying.{keys-at}
 use Rattle.nets.specs.Tables.{JointNumber}
 use Rattle.net_numbers.specs.Netted.{numberIn}
-use Rattle.net_numbers.specs.Found.{Ascending, PlaceOf, NumberAt, KeysOf, Jointed}
-use Rattle.net_numbers.proofs.Finding.{rows-at, maps-at}
+use Rattle.net_numbers.specs.Found.{Ascending, PlaceOf, NumberAt, Jointed}
+use Rattle.lists.proofs.Finding.{rows-at}
 use Rattle.net_numbers.proofs.Numbered.{number-found}
 
 -- the same spot, the same key
@@ -85,16 +85,11 @@ module _ {ps : List Point} {js : Joints} {keys : List ℕ} (r : Ready ps js keys
   length-rows : length (jointRows js) ≡ js .count
   length-rows = omega (arith, length-take (js .count) (js .rows), r .long, r .jointed .room)
 
-  spot-at : (m : ℕ) → m < js .count → spot (getD keys m 0) ≡ place (getD (jointRows js) m zeroJoint)
-  spot-at m g =
-      ap spot (sym (getD-take (js .count) keys m 0 g))
-      ∙ maps-at spot place (take (js .count) keys) (jointRows js) (r .keys-are .spots) m 0 zeroJoint (omega (arith, length-take (js .count) keys, r .keys-are .size, r .jointed .room))
-
   pub ready-ascend : Ascending keys (js .count)
   ready-ascend = record {
     room = r .jointed .room;
     rise = λ i j a b. key-rises (getD keys i 0) (getD keys j 0)
-        (both (sym (spot-at i (omega arith))) (sym (spot-at j b)) (rows-at (r .jointed .rising) i j zeroJoint a (omega (arith, length-rows))));
+        (both (sym (keys-at (r .keys-are) (r .jointed .room) i (omega arith))) (sym (keys-at (r .keys-are) (r .jointed .room) j b)) (rows-at (r .jointed .rising) i j zeroJoint a (omega (arith, length-rows))));
   }
     where
       both : {p q p′ q′ : Point} → p ≡ p′ → q ≡ q′ → Rise p q → Rise p′ q′
@@ -104,7 +99,7 @@ module _ {ps : List Point} {js : Joints} {keys : List ℕ} (r : Ready ps js keys
   pub ready-number : {p : Point} (q : Point) {k : ℕ} → q ∈ ps → p ≡ q → NumberAt keys (js .count) p k → k ≡ numberIn (jointRows js) q
   ready-number q m e t =
       let f = number-found (jointRows js) q (r .jointed .all q m) in
-      t .only (f .0) (omega (arith, f .2, length-rows)) (spot-at (f .0) (omega (arith, f .2, length-rows)) ∙ sym (f .3) ∙ sym e) ∙ sym (f .1)
+      t .only (f .0) (omega (arith, f .2, length-rows)) (keys-at (r .keys-are) (r .jointed .room) (f .0) (omega (arith, f .2, length-rows)) ∙ sym (f .3) ∙ sym e) ∙ sym (f .1)
 
 -- a joint's number is above 0 and below 1,409
 pub number-low : {ps : List Point} {js : Joints} (p : Point) → Jointed ps js → p ∈ ps → JointNumber (numberIn (jointRows js) p)

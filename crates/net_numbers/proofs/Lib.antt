@@ -1,5 +1,4 @@
 -- Laws on the net numbers of a drawing. `Numbered` has the theorem.
-pub mod Finding
 pub mod Numbered
 mod Keys
 mod Filling

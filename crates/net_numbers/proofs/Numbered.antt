@@ -19,7 +19,7 @@ use Rattle.nets.specs.Nets.{Numbered}
 use Rattle.nets.specs.Numbers.{byNumber}
 use Rattle.nets.proofs.Told.{OwnNumbers, numbers-right, numbers-low}
 use Rattle.net_numbers.specs.Netted.{endsOf, isPower, netOn, numberIn, netNumbers}
-use Rattle.net_numbers.proofs.Finding.{span-found}
+use Rattle.lists.proofs.Finding.{span-found}
 
 -- a point with a joint has that joint's row for its number
 pub number-found : (js : List Joint) (p : Point) → (j : Joint) × j ∈ js × (place j ≡ p) → (m : ℕ) × (numberIn js p ≡ suc m) × (m < length js) × (p ≡ place (getD js m zeroJoint))

@@ -30,11 +30,6 @@ pub record PlaceOf (keys : List ℕ) (n key i : ℕ) : Type 0 where
 pub record NumberAt (keys : List ℕ) (n : ℕ) (p : Point) (k : ℕ) : Type 0 where
   pub only : (m : ℕ) → m < n → spot (getD keys m 0) ≡ p → k ≡ suc m
 
--- the keys of the joints, row by row
-pub record KeysOf (js : Joints) (keys : List ℕ) : Type 0 where
-  pub size : length keys ≡ 1408
-  pub spots : map spot (take (js .count) keys) ≡ map place (jointRows js)
-
 -- the joint rows rise, and each of the points has one
 pub record Jointed (ps : List Point) (js : Joints) : Type 0 where
   pub room : js .count ≤ 1408

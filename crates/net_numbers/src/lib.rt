@@ -9,7 +9,8 @@ ghost use Rattle.sheet.specs.Rules.{Lawful};
 ghost use Rattle.wires.specs.Tables.{pointRows};
 ghost use Rattle.parts.specs.Tables.{TabledParts};
 ghost use Rattle.net_numbers.specs.Netted.{isPower, netNumbers};
-ghost use Rattle.net_numbers.specs.Found.{Ascending, PlaceOf, NumberAt, KeysOf, Jointed, LinksIn, PadsIn};
+ghost use Rattle.net_numbers.specs.Found.{Ascending, PlaceOf, NumberAt, Jointed, LinksIn, PadsIn};
+use joints::keys::joint_keys;
 use joints::keys::key;
 use nets::Link;
 use nets::Links;
@@ -26,25 +27,8 @@ use wires::Points;
 use wires::lines::high_tip;
 use wires::lines::low_tip;
 
-// The key of each joint, in row order.
-fn joint_keys(js: Joints) -> [u32; 1408]
-    requires { ⌜ js .count ≤ 1408 ⌝ }
-    ensures { λ r. ⌜ KeysOf js r ⌝ }
-{
-    let n = js.count;
-    let mut keys = [0u32; 1408];
-    let mut i = 0;
-    while i < n {
-        let j = js.rows[i];
-        let p = Point { x: j.x, y: j.y };
-        keys[i] = key(p);
-        i += 1;
-    }
-    keys
-}
-
 // The place of a key among rising ones, by halving.
-fn find(keys: &[u32; 1408], n: usize, k: u32) -> usize
+fn find(keys: &[u64; 1408], n: usize, k: u64) -> usize
     requires { ⌜ Ascending (now keys) n ⌝ }
     ensures { λ r. ⌜ PlaceOf (now (keys .entry)) n k r ⌝ }
 {
@@ -62,11 +46,11 @@ fn find(keys: &[u32; 1408], n: usize, k: u32) -> usize
 }
 
 // The number of the joint at a point: its row, counted from 1.
-fn number_of(keys: &[u32; 1408], n: usize, p: Point) -> u16
+fn number_of(keys: &[u64; 1408], n: usize, p: Point) -> u16
     requires { ⌜ Ascending (now keys) n ⌝ }
     ensures { λ r. ⌜ NumberAt (now (keys .entry)) n p r ⌝ }
 {
-    let k = key(p);
+    let k = key(p) as u64;
     let i = find(keys, n, k);
     (i + 1) as u16
 }

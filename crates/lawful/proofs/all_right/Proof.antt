@@ -2,11 +2,15 @@
 use mathlib.Core.Bool.{true, false≢true}
 use mathlib.Core.Path.{_≡_, sym, _∙_}
 use borrow.Author.Tests.{not-false}
+use Rattle.sheet.specs.Lines.{marks}
+use Rattle.sheet.specs.Joints.{jointsOf}
+use Rattle.sheet.specs.Drawings.{wireRows, jointRows}
 use Rattle.sheet.proofs.Owned.{owned}
+use Rattle.wires.specs.Tables.{pointRows}
 use Rattle.rules.specs.Check.{check1}
 use Rattle.rules.specs.Steps.{Within}
 use Rattle.rules.proofs.Answers.{within}
-use Rattle.lawful.proofs.Sound.{joints-fit, all-sound}
+use Rattle.lawful.proofs.Sound.{all-sound}
 use borrow.Author.Needs.{needs}
 use Rattle.lawful.proofs.all_right.Statement.{statement}
 use Rattle.lawful.proofs.all_right.Tie as tie
@@ -26,11 +30,15 @@ returns c = λ e. absurd (false≢true e)
 all-pads-requires : tie.Need-all-pads-requires
 all-pads-requires c κs = rooms c .components
 
-count-joints-requires : tie.Need-count-joints-requires
-count-joints-requires c κs = (rooms (c .before) .wires, c .all-pads .ensures .room)
+joints-right-requires : tie.Need-joints-right-requires
+joints-right-requires c κs = let r = rooms (c .before) in (r .joints, (r .wires, c .all-pads .ensures .room))
 
-same-rows-requires : tie.Need-same-rows-requires
-same-rows-requires c κs = (rooms (c .before .before) .joints, joints-fit (c .before .before .before .before .before .before .before .args .d .wires) (c .before .all-pads .result) (rooms (c .before .before) .wires) (c .before .all-pads .ensures .room) (c .count-joints .ensures))
+-- past the joints
+joints : (c : tie.Else2) → jointRows (c .before .before .before .before .before .before .before .before .args .d .joints) ≡ jointsOf (marks (wireRows (c .before .before .before .before .before .before .before .before .args .d .wires)) (pointRows (c .before .before .all-pads .result)))
+joints c = c .before .joints-right .ensures (not-false _ (c .if2 .left))
+
+returns-2 : tie.Need-returns-2
+returns-2 c = λ e. absurd (false≢true e)
 
 components-rise-requires : tie.Need-components-rise-requires
 components-rise-requires c κs = rooms (c .before .before .before) .components .room
@@ -39,10 +47,12 @@ none-touch-requires : tie.Need-none-touch-requires
 none-touch-requires c κs = rooms (c .before .before .before .before) .components
 
 wires-right-requires : tie.Need-wires-right-requires
-wires-right-requires c κs = (rooms (c .before .before .before .before .before) .wires, (c .before .before .before .before .all-pads .ensures .room, c .before .before .before .count-joints .ensures))
+wires-right-requires c κs = let r = rooms (c .before .before .before .before .before) in (r .wires, (r .joints, joints (c .before .before)))
 
-returns-2 : tie.Need-returns-2
-returns-2 c = all-sound (c .before .before .before .before .before .before .before .before .before .before .before .args .d) (owned (c .before .before .before .before .before .before .before .before .before .before .before .args .d) _ (c .before .before .before .before .before .before .before .before .before .before .before .good .0 .1 .1)) (limits (c .before .before .before .before .before .before)) (c .before .before .before .before .before .all-pads .result) (c .before .before .before .before .before .all-pads .ensures .points-are) (c .before .before .before .before .count-joints .ensures) (c .before .before .before .same-rows .ensures) (c .before .before .components-rise .ensures) (c .before .none-touch .ensures) (c .wires-right .ensures)
+returns-3 : tie.Need-returns-3
+returns-3 c =
+    let start = c .before .before .before .before .before .before .before .before .before .before .before in
+    all-sound (start .args .d) (owned (start .args .d) _ (start .good .0 .1 .1)) (limits (c .before .before .before .before .before .before)) (c .before .before .before .before .before .all-pads .result) (c .before .before .before .before .before .all-pads .ensures .points-are) (joints (c .before .before .before)) (c .before .before .components-rise .ensures) (c .before .none-touch .ensures) (c .wires-right .ensures)
 
 pub all-right-spec : {M : Type 1} → statement M
 all-right-spec =
@@ -51,9 +61,9 @@ all-right-spec =
     within-limits-requires
     returns
     all-pads-requires
-    count-joints-requires
-    same-rows-requires
+    joints-right-requires
+    returns-2
     components-rise-requires
     none-touch-requires
     wires-right-requires
-    returns-2)
+    returns-3)

@@ -8,7 +8,7 @@ use Rattle.sheet.specs.Drawings.{jointRows}
 use Rattle.symbol.specs.Symbols.{unused}
 use Rattle.wires.specs.Tables.{pointRows}
 use Rattle.net_numbers.specs.Netted.{numberIn}
-use Rattle.net_numbers.proofs.Finding.{Filled, filled-start, filled-next, filled-end}
+use Rattle.lists.proofs.Finding.{Filled, filled-start, filled-next, filled-end}
 use Rattle.net_numbers.proofs.Keys.{Ready, ready-ascend, ready-number}
 use Rattle.net_numbers.proofs.Filling.{pads-in}
 use Rattle.net_numbers.proofs.joint_numbers.Statement.{statement}

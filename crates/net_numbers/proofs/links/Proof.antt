@@ -7,7 +7,7 @@ use Rattle.lists.proofs.Tables.{long, row-in}
 use Rattle.sheet.specs.Lines.{ends}
 use Rattle.sheet.specs.Drawings.{wireRows, jointRows, zeroWire}
 use Rattle.nets.specs.Tables.{endsOf}
-use Rattle.net_numbers.proofs.Finding.{Filled, filled-start, filled-next, filled-end}
+use Rattle.lists.proofs.Finding.{Filled, filled-start, filled-next, filled-end}
 use Rattle.net_numbers.proofs.Numbered.{low-end, high-end}
 use Rattle.net_numbers.proofs.Keys.{Ready, ready-ascend, ready-number}
 use Rattle.net_numbers.proofs.Filling.{numbersOf, links-in}

@@ -7,6 +7,9 @@ use Rattle.net_numbers.proofs.number_of.Tie as tie
 key-requires : tie.Need-key-requires
 key-requires c κs = search needs
 
+cast-k : tie.Need-cast-k
+cast-k c = search needs
+
 find-requires : tie.Need-find-requires
 find-requires c κs = search needs
 
@@ -20,4 +23,4 @@ returns : tie.Need-returns
 returns c = place-number (c .find .ensures) (c .before .key .ensures)
 
 pub number-of-spec : {M : Type 1} → statement M
-number-of-spec = tie.close (tie.spec key-requires find-requires add-result cast-result returns)
+number-of-spec = tie.close (tie.spec key-requires cast-k find-requires add-result cast-result returns)

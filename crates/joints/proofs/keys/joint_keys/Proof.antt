@@ -1,4 +1,4 @@
--- `net_numbers::joint_keys` meets its contract: the keys so far are those of the rows passed.
+-- The keys so far are those of the rows passed.
 use Prim.Native.Nat.{ℕ, _≤_, _-_}
 use native.Mathlib.Omega.{arith}
 use mathlib.Core.Path.{_≡_, _∙_}
@@ -6,10 +6,10 @@ use lib.ListN.{length, length-set, length-replicate}
 use Rattle.lists.proofs.Tables.{long}
 use Rattle.sheet.specs.Joints.{place}
 use Rattle.sheet.specs.Drawings.{zeroJoint}
 use Rattle.joints.specs.Keys.{spot}
-use Rattle.net_numbers.proofs.Finding.{Filled, filled-start, filled-next, filled-end}
-use Rattle.net_numbers.proofs.joint_keys.Statement.{statement}
-use Rattle.net_numbers.proofs.joint_keys.Tie as tie
+use Rattle.lists.proofs.Finding.{Filled, filled-start, filled-next, filled-end}
+use Rattle.joints.proofs.keys.joint_keys.Statement.{statement}
+use Rattle.joints.proofs.keys.joint_keys.Tie as tie
 
 abbrev Inv-loop : tie.InvT-loop
 Inv-loop js n keys₀ i₀ keys i = (i ≤ n) × (length (js .rows) ≡ 1408) × (length keys ≡ 1408) × Filled spot place (js .rows) i keys
@@ -28,6 +28,9 @@ element-copy-out-j c = omega arith
 
 key-requires : tie.Need-key-requires Inv-loop μ-loop
 key-requires c κs = tt
+
+cast-keys : tie.Need-cast-keys Inv-loop μ-loop
+cast-keys c = omega arith
 
 mul-keys : tie.Need-mul-keys Inv-loop μ-loop
 mul-keys c = omega arith
@@ -59,6 +62,7 @@ joint-keys-spec =
     mul-j
     element-copy-out-j
     key-requires
+    cast-keys
     mul-keys
     array-write-keys
     add-i

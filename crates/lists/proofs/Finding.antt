@@ -1,16 +1,17 @@
--- Searches among rows: what a search finds, rows in order by their places, and lists compared place by place.
-use Prim.Native.Nat.{ℕ, zero, suc, _+_, _<_, suc-le-suc}
+-- Rows by their places: what a search finds, rows in order, lists compared place by place, and an array filled row by row.
+use Prim.Native.Nat.{ℕ, zero, suc, _+_, _≤_, _<_, suc-le-suc}
 use native.Mathlib.Nat.{le-of-suc-le-suc}
 use native.Mathlib.Omega.{arith}
 use mathlib.Core.Bool.{Bool, not}
 use mathlib.Core.List.{List, [], _∷_, _++_, map, map-append, List·Memᴰ·head as ∈-head, List·Memᴰ·tail as ∈-tail}
 use mathlib.Core.Path.{_≡_, refl, sym, ap, ap₂, subst, _∙_}
 use lib.ListN.{length, getD, set, take}
+use lib.Seq.{getD-take, length-take-le}
 use Rattle.lists.specs.Lists.{_∈_, Rows, none, more}
 use Rattle.lists.specs.Places.{span}
 use Rattle.lists.proofs.Tests.{Reads, choose, stable, not-reads}
 use Rattle.lists.proofs.Tables.{take-push}
 use Rattle.lists.proofs.Passes.{take-more}
 
 -- ---- for lists
 
@@ -26,6 +27,23 @@ module _ {A : Type 0} where
   rows-at (more f r) i zero d l h = absurd (omega arith)
   rows-at (more {xs = xs} f r) zero (suc j) d l h = f (getD xs j d) (get-in xs j d (le-of-suc-le-suc h))
   rows-at (more f r) (suc i) (suc j) d l h = rows-at r i j d (le-of-suc-le-suc l) (le-of-suc-le-suc h)
+
+  place-of : {x : A} {xs : List A} (d : A) → x ∈ xs → (r : ℕ) × r < length xs × (getD xs r d ≡ x)
+  place-of d (∈-head e) = (zero, omega arith, sym e)
+  place-of d (∈-tail m) = let t = place-of d m in (suc (t .0), omega (arith, t .1), t .2)
+
+  -- the same of the first n rows of a table
+  pub table-at : {R : A → A → Type 0} (l : List A) (n : ℕ) → Rows R (take n l) → n ≤ length l → (i j : ℕ) (d : A) → i < j → j < n → R (getD l i d) (getD l j d)
+  table-at {R} l n r a i j d g h =
+      let z : length (take n l) ≡ n = length-take-le n l a in
+      subst (λ (x : A). R x (getD l j d)) (getD-take n l i d (omega arith)) (subst (λ (y : A). R (getD (take n l) i d) y) (getD-take n l j d h) (rows-at r i j d g (omega arith)))
+
+  pub table-place : (l : List A) (n : ℕ) {x : A} (d : A) → x ∈ take n l → n ≤ length l → (r : ℕ) × r < n × (getD l r d ≡ x)
+  table-place l n d m a =
+      let z : length (take n l) ≡ n = length-take-le n l a in
+      let t = place-of d m in
+      let h : t .0 < n = omega (arith, t .1) in
+      (t .0, h, sym (getD-take n l (t .0) d h) ∙ t .2)
 
   -- where some row passes a test, the first to pass it does
   module _ {P : A → Type 0} {f : A → Bool} (test : (x : A) → Reads (P x) (f x)) where

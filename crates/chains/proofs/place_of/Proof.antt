@@ -3,10 +3,10 @@ use Prim.Native.Nat.{ℕ, _≤_, _-_}
 use mathlib.Core.Path.{sym, ap, _∙_}
 use lib.ListN.{take, getD, length-take}
 use lib.Seq.{getD-take}
-use Rattle.merge.proofs.Chaining.{Sought, sought-start, sought-at, sought-falls, sought-next, sought-here, sought-end}
+use Rattle.chains.proofs.Chaining.{Sought, sought-start, sought-at, sought-falls, sought-next, place-here, place-none}
 use native.Mathlib.Omega.{arith}
-use Rattle.merge.proofs.chains.is_in.Statement.{statement}
-use Rattle.merge.proofs.chains.is_in.Tie as tie
+use Rattle.chains.proofs.place_of.Statement.{statement}
+use Rattle.chains.proofs.place_of.Tie as tie
 
 abbrev Inv-loop : tie.InvT-loop
 Inv-loop codes n last before c key k₀ k = (k ≤ n) × Sought c (take n codes) before k
@@ -41,7 +41,7 @@ element-copy-out-if1 c = omega arith
 
 returns : tie.Need-returns Inv-loop μ-loop
 returns c = let s = c .before .before .before .loop .inv .1 in
-    sought-here s (omega arith) (getD-take (c .before .before .before .before .before .before .before .args .n) _ _ 0 (omega arith) ∙ c .if1 .taken)
+    place-here s (omega arith) (omega arith) (getD-take (c .before .before .before .before .before .before .before .args .n) _ _ 0 (omega arith) ∙ c .if1 .taken)
 
 mul-wide-2 : tie.Need-mul-wide-2 Inv-loop μ-loop
 mul-wide-2 c = omega arith
@@ -62,10 +62,10 @@ loop-again c = let s = c .before .before .before .before .before .loop .inv .1 i
     (omega (arith, c .wide2 .ensures), sought-at (sought-next s (omega arith) (λ e. c .before .before .if1 .left (sym (getD-take (c .before .before .before .before .before .before .before .before .before .args .n) _ _ 0 (omega arith)) ∙ e)) f) (c .wide2 .ensures))
 
 returns-2 : tie.Need-returns-2 Inv-loop μ-loop
-returns-2 c = sought-end (c .before .loop .inv .1) (omega arith)
+returns-2 c = place-none _ (c .before .loop .inv .1) (omega arith)
 
-pub is-in-spec : {M : Type 1} → statement M
-is-in-spec =
+pub place-of-spec : {M : Type 1} → statement M
+place-of-spec =
     tie.close
     (tie.spec
     Inv-loop

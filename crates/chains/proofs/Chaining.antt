@@ -7,13 +7,13 @@ use mathlib.Core.Path.{_≡_, refl, sym, ap, _∙_, subst}
 use mathlib.Core.List.{List, [], _∷_}
 use mathlib.Core.Logic.{⊎-elim, _⊎_, inl, inr}
 use mathlib.Core.Bool.{Bool, true, false, _||_, false≢true}
-use lib.Dec.{eqb}
+use lib.Dec.{T, eqb, ltb}
 use borrow.Author.Tests.{eq-eqb, eqb-true}
 use lib.ListN.{length, getD, take, set, replicate}
 use lib.Seq.{getD-set-same, getD-set-other, getD-take, length-take-le}
 use Rattle.lists.specs.Lists.{any}
-use Rattle.lists.proofs.Tests.{decide, eqb-reads, compare}
-use Rattle.merge.specs.Chains.{Met, here, later, Chained}
+use Rattle.lists.proofs.Tests.{decide, holds, passes, agree, eqb-reads, ltb-reads, compare}
+use Rattle.chains.specs.Chains.{Met, here, later, Chained, Place}
 
 zeros : (n k : ℕ) → _≡_ {A = ℕ} (getD (replicate n 0) k 0) 0
 zeros zero k = refl
@@ -149,16 +149,24 @@ sought-next {c} {k} {cs} {before} s h f g = record {
   within = omega (arith, s .within);
 }
 
-pub sought-here : {c k : ℕ} {cs before : List ℕ} → Sought c cs before k → 0 < k → getD cs (k - 1) 0 ≡ c → true ≡ any (eqb c) cs
-sought-here {c} {k} {cs} s h e = sym (place-any c cs (k - 1) (omega (arith, s .within)) e)
+-- the number at the link is the one sought
+pub place-here : {c k n : ℕ} {cs before : List ℕ} → Sought c cs before k → 0 < k → k ≤ n → getD cs (k - 1) 0 ≡ c → Place c cs n (k - 1)
+place-here {c} {k} {n} {cs} s h m e = record {
+  there = agree (ltb (k - 1) n) (any (eqb c) cs) (λ t. subst T (sym (place-any c cs (k - 1) (omega (arith, s .within)) e)) tt) (λ t. passes (ltb-reads (k - 1) n) (omega arith));
+  is = λ l. e;
+}
 
 met-end : {before : List ℕ} {k j : ℕ} → Met before k j → k ≡ 0 → ⊥
 met-end here e = omega arith
 met-end (later p) e = omega arith
 
-pub sought-end : {c k : ℕ} {cs before : List ℕ} → Sought c cs before k → k ≡ 0 → false ≡ any (eqb c) cs
-sought-end {c} {k} {cs} {before} s e = step (any (eqb c) cs) refl
+-- the chain ends without it
+pub place-none : {c k : ℕ} {cs before : List ℕ} (n : ℕ) → Sought c cs before k → k ≡ 0 → Place c cs n n
+place-none {c} {k} {cs} n s e = record {
+  there = agree (ltb n n) (any (eqb c) cs) (λ t. absurd (omega (arith, holds (ltb-reads n n) t))) (λ t. absurd (none (any (eqb c) cs) refl t));
+  is = λ l. absurd (omega arith);
+}
   where
-    step : (b : Bool) → any (eqb c) cs ≡ b → false ≡ any (eqb c) cs
-    step true q = absurd (met-end (s .ahead q .2) e)
-    step false q = sym q
+    none : (b : Bool) → any (eqb c) cs ≡ b → T b → ⊥
+    none true q t = met-end (s .ahead q .2) e
+    none false q t = t

@@ -4,10 +4,10 @@ use mathlib.Core.Path.{_≡_, refl}
 use borrow.Author.Needs.{needs}
 use lib.ListN.{length, length-set}
 use Rattle.lists.proofs.Tables.{long}
-use Rattle.merge.proofs.Chaining.{Building, build-start, build-next, build-end}
+use Rattle.chains.proofs.Chaining.{Building, build-start, build-next, build-end}
 use native.Mathlib.Omega.{arith}
-use Rattle.merge.proofs.chains.chain.Statement.{statement}
-use Rattle.merge.proofs.chains.chain.Tie as tie
+use Rattle.chains.proofs.chain.Statement.{statement}
+use Rattle.chains.proofs.chain.Tie as tie
 
 abbrev Inv-loop : tie.InvT-loop
 Inv-loop n codes out₀ i₀ out i = (i ≤ n) × (length codes ≡ 1408) × (length (out .last) ≡ 4096) × (length (out .before) ≡ 1408) × Building (λ c. c % 4093) codes i (out .last) (out .before)

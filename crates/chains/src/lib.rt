@@ -4,8 +4,13 @@ ghost use Prim.Native.Nat.{_≤_, _<_, _%_};
 ghost use lib.Dec.{eqb};
 ghost use lib.ListN.{take};
 ghost use Rattle.lists.specs.Lists.{any};
-ghost use Rattle.merge.specs.Chains.{Chained};
-use crate::Index;
+ghost use Rattle.chains.specs.Chains.{Chained, Place};
+
+// The last place of each key, and for each place the one before it with its key; both plus one, and 0 for none.
+pub struct Index {
+    pub last: [u16; 4096],
+    pub before: [u16; 1408],
+}
 
 // Numbers with one key are in one chain.
 fn key_of(c: u64) -> usize
@@ -40,6 +45,29 @@ pub fn chain(codes: [u64; 1408], n: usize) -> Index
     out
 }
 
+// Where the number is among the first n, or n.
+pub fn place_of(
+    codes: &[u64; 1408],
+    n: usize,
+    last: &[u16; 4096],
+    before: &[u16; 1408],
+    c: u64,
+) -> usize
+    requires { ⌜ (n ≤ 1408) × Chained (λ c. c % 4093) (take n (now codes)) (now last) (now before) ⌝ }
+    ensures { λ r. ⌜ Place c (take n (now (codes .entry))) n r ⌝ }
+{
+    let key = key_of(c);
+    let mut k = wide(last[key]);
+    while 0 < k {
+        let j = k - 1;
+        if codes[j] == c {
+            return j;
+        }
+        k = wide(before[j]);
+    }
+    n
+}
+
 // The number is one of the first n.
 pub fn is_in(
     codes: &[u64; 1408],
@@ -51,14 +79,5 @@ pub fn is_in(
     requires { ⌜ (n ≤ 1408) × Chained (λ c. c % 4093) (take n (now codes)) (now last) (now before) ⌝ }
     ensures { λ r. ⌜ r ≡ any (eqb c) (take n (now (codes .entry))) ⌝ }
 {
-    let key = key_of(c);
-    let mut k = wide(last[key]);
-    while 0 < k {
-        let j = k - 1;
-        if codes[j] == c {
-            return true;
-        }
-        k = wide(before[j]);
-    }
-    false
+    place_of(codes, n, last, before, c) < n
 }

@@ -1,7 +1,10 @@
 -- Numbers of one key are chained, each to the last one before it. A link is a place plus one, and 0 ends the chain.
 use Prim.Native.Nat.{ℕ, suc, _≤_, _<_}
 use mathlib.Core.List.{List}
+use mathlib.Core.Path.{_≡_}
+use lib.Dec.{eqb, ltb}
 use lib.ListN.{length, getD}
+use Rattle.lists.specs.Lists.{any}
 
 -- following the links from k, place j is met
 pub data Met (before : List ℕ) : ℕ → ℕ → Type 0 where
@@ -13,3 +16,8 @@ pub record Chained (key : ℕ → ℕ) (cs last before : List ℕ) : Type 0 wher
   pub met : (j : ℕ) → j < length cs → Met before (getD last (key (getD cs j 0)) 0) j
   pub falls : (j : ℕ) → j < length cs → getD before j 0 ≤ j
   pub starts : (k : ℕ) → getD last k 0 ≤ length cs
+
+-- c is at place r of the n numbers, and where it is none of them r is no place
+pub record Place (c : ℕ) (cs : List ℕ) (n r : ℕ) : Type 0 where
+  pub there : ltb r n ≡ any (eqb c) cs
+  pub is : r < n → getD cs r 0 ≡ c
