@@ -1,5 +1,4 @@
 pub mod Walked
-pub mod Rows
 pub mod Ordered
 pub mod Linking
 pub mod Running

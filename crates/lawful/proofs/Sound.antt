@@ -1,14 +1,12 @@
 -- Where all that the fast check looks at is right, the drawing is lawful.
-use Prim.Native.Nat.{_-_, _≤_}
+use Prim.Native.Nat.{_≤_}
 use native.Mathlib.Omega.{arith}
 use mathlib.Core.Bool.{Bool, true, false, _&&_}
 use mathlib.Core.List.{List}
 use mathlib.Core.Path.{_≡_, refl, sym, ap, subst, _∙_}
 use lib.Dec.{T}
-use lib.ListN.{length, length-append, length-take, replicate}
-use lib.Seq.{take-append-seam}
+use lib.ListN.{length, length-append, length-take}
 use Rattle.lists.specs.Lists.{_∈_, Rows, links}
-use Rattle.lists.specs.Tables.{pad}
 use Rattle.lists.proofs.Tests.{holds, and-reads}
 use Rattle.lists.proofs.Lists.{links-reads}
 use Rattle.symbol.specs.declared.Point.{Point}
@@ -20,7 +18,7 @@ use Rattle.sheet.specs.declared.Drawing.{Drawing}
 use Rattle.sheet.specs.Lines.{ends, marks, Follows, Before, tip, high}
 use Rattle.sheet.specs.Joints.{jointsOf, Rising}
 use Rattle.sheet.specs.Parts.{position, padsOf, ahead}
-use Rattle.sheet.specs.Drawings.{Sheet, zeroJoint, wireRows, jointRows, jointTable, listsOf, marksOf, Sized}
+use Rattle.sheet.specs.Drawings.{Sheet, wireRows, jointRows, jointTable, listsOf, marksOf, Sized}
 use Rattle.sheet.specs.Wiring.{AllFit, Held, Wired}
 use Rattle.sheet.specs.Rules.{Rule2, Rule3, Rule5, Lawful}
 use Rattle.sheet.proofs.Points.{rises-reads, rise-chain}
@@ -29,11 +27,12 @@ use Rattle.sheet.proofs.RowOrder.{rules-2-7}
 use Rattle.sheet.proofs.Rules.{wired-rules}
 use Rattle.wires.specs.declared.Points.{Points}
 use Rattle.wires.specs.Tables.{pointRows}
-use Rattle.rules.specs.Check.{check1}
-use Rattle.rules.proofs.Decides.{reads1}
+use Rattle.limits.specs.Limits.{check1}
+use Rattle.limits.proofs.Decides.{reads1}
+use Rattle.row_order.proofs.Decides.{true-reads}
+use Rattle.rules.proofs.Answers.{table-rows}
 use Rattle.lawful.specs.Looks.{before, Runs}
 use Rattle.lawful.proofs.Ordered.{ordered}
-use Rattle.lawful.proofs.Rows.{true-reads}
 use Rattle.lawful.proofs.Seen.{none-inside, held-apart}
 
 -- what holds in both directions
@@ -47,10 +46,6 @@ pub joints-fit : (ws : Wires) (ps : Points) {js : Joints} → ws .count ≤ 512 
 joints-fit ws ps {js} h k e =
     let size : js .count ≡ length (jointsOf (marks (wireRows ws) (pointRows ps))) = ap (λ (t : Joints). t .count) e in
     omega (arith, length-joints (marks (wireRows ws) (pointRows ps)), length-append (ends (wireRows ws)) (pointRows ps), length-ends (wireRows ws), length-take (ws .count) (ws .rows), length-take (ps .count) (ps .rows))
-
-table-rows : {js : Joints} (xs : List Joint) → js ≡ jointTable xs → jointRows js ≡ xs
-unfolding pad
-table-rows xs e = ap jointRows e ∙ take-append-seam xs (replicate (1408 - length xs) zeroJoint)
 
 -- ---- wires
 

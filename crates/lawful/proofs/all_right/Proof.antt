@@ -3,7 +3,7 @@ use mathlib.Core.Bool.{true, false≢true}
 use mathlib.Core.Path.{_≡_, sym, _∙_}
 use borrow.Author.Tests.{not-false}
 use Rattle.sheet.proofs.Owned.{owned}
-use Rattle.rules.specs.Check.{check1}
+use Rattle.limits.specs.Limits.{check1}
 use Rattle.rules.specs.Steps.{Within}
 use Rattle.rules.proofs.Answers.{within}
 use Rattle.lawful.proofs.Sound.{joints-fit, all-sound}

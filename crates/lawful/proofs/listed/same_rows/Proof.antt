@@ -2,12 +2,14 @@
 use Prim.Native.Nat.{ℕ, _-_, _≤_}
 use native.Mathlib.Omega.{arith}
 use mathlib.Core.Bool.{false≢true}
-use mathlib.Core.Path.{_≡_, ap, sym, _∙_}
+use mathlib.Core.Path.{_≡_, ap, sym, subst, _∙_}
+use lib.Dec.{T}
 use lib.ListN.{length, take}
 use borrow.Author.Needs.{needs}
 use borrow.Author.Tests.{not-false}
+use Rattle.lists.proofs.Tests.{holds}
 use Rattle.lists.proofs.Tables.{long}
-use Rattle.lawful.proofs.Rows.{one-row}
+use Rattle.rules.proofs.Counted.{row-reads}
 use Rattle.lawful.proofs.Walked.{Alike, alike-start, alike-next, alike-end}
 use Rattle.lawful.proofs.listed.same_rows.Statement.{statement}
 use Rattle.lawful.proofs.listed.same_rows.Tie as tie
@@ -49,7 +51,7 @@ loop-less : tie.Need-loop-less Inv-loop μ-loop
 loop-less c = omega arith
 
 loop-again : tie.Need-loop-again Inv-loop μ-loop
-loop-again c = (omega arith, c .before .before .before .before .before .loop .inv .1, alike-next _ _ (c .before .before .before .before .before .loop .inv .2) (one-row _ _ (sym (c .before .is-same-row .ensures) ∙ not-false _ (c .if2 .left))) (omega arith) (omega arith) (omega arith))
+loop-again c = (omega arith, c .before .before .before .before .before .loop .inv .1, alike-next _ _ (c .before .before .before .before .before .loop .inv .2) (holds (row-reads _ _) (subst T (sym (sym (c .before .is-same-row .ensures) ∙ not-false _ (c .if2 .left))) tt)) (omega arith) (omega arith) (omega arith))
 
 returns-3 : tie.Need-returns-3 Inv-loop μ-loop
 returns-3 c = λ e.
