@@ -1,4 +1,3 @@
-pub mod Rows
 pub mod Ordered
 pub mod Linking
 pub mod Running

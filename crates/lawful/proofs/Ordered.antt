@@ -1,23 +1,20 @@
 -- Wires that come each after the one before, and share no length with it, are in row order.
 use Prim.Native.Nat.{_≤_, _<_}
-use mathlib.Core.Bool.{Bool, true, false, not}
+use mathlib.Core.Bool.{true, false}
 use mathlib.Core.List.{List, List·Memᴰ·head as ∈-head, List·Memᴰ·tail as ∈-tail}
 use mathlib.Core.Path.{_≡_, refl}
 use mathlib.Core.Logic.{_⊎_, inl, inr}
 use lib.Dec.{T}
 use Rattle.lists.specs.Lists.{Rows, Chain, empty, single, link, links}
-use Rattle.lists.proofs.Tests.{Reads, pass, fail, clash, holds, reads-as, and-reads, or-reads, eqb-reads, leb-reads, ltb-reads, beq-reads}
+use Rattle.lists.proofs.Tests.{Reads, holds, reads-as, and-reads, or-reads, eqb-reads, leb-reads, ltb-reads, beq-reads}
 use Rattle.lists.proofs.Lists.{links-reads, rows-all, chain-rows}
 use Rattle.sheet.specs.declared.Wire.{Wire}
 use Rattle.sheet.specs.Lines.{Before, turned, next-line, same-line}
 use Rattle.sheet.specs.Wiring.{Fits, AllFit}
 use Rattle.sheet.proofs.Before.{before-trans}
+use Rattle.limits.proofs.Decides.{false-reads}
+use Rattle.row_order.proofs.Decides.{true-reads}
 use Rattle.lawful.specs.Looks.{before}
-use Rattle.lawful.proofs.Rows.{true-reads}
-
-false-reads : (b : Bool) → Reads (b ≡ false) (not b)
-false-reads true = fail (λ e. clash refl e)
-false-reads false = pass refl
 
 before-reads : (a b : Wire) → Reads (Before a b) (before a b)
 unfolding before

@@ -8,7 +8,7 @@ use mathlib.Core.Logic.{⊎-elim, _⊎_, inl, inr}
 use lib.Dec.{T}
 use lib.ListN.{length, getD, take, drop}
 use Rattle.lists.specs.Lists.{_∈_}
-use Rattle.lists.proofs.Tests.{Reads, holds, reads-as, not-reads, and-reads, or-reads, eqb-reads, beq-reads, compare, clash}
+use Rattle.lists.proofs.Tests.{holds, not-reads, and-reads, or-reads, eqb-reads, compare, clash}
 use Rattle.lists.proofs.Tables.{row-in}
 use Rattle.lists.proofs.Walks.{rows-from, rows-past}
 use Rattle.symbol.specs.declared.Point.{Point}
@@ -20,17 +20,12 @@ use Rattle.sheet.specs.Joints.{place, Rising}
 use Rattle.sheet.specs.Drawings.{zeroJoint}
 use Rattle.sheet.proofs.Points.{same-reads, rise-self, rise-asym}
 use Rattle.sheet.proofs.Lines.{same-dir, along-point, across-point}
-use Rattle.rules.specs.Steps.{goesOn}
+use Rattle.row_order.proofs.Decides.{true-reads}
+use Rattle.rules.proofs.Counted.{goes-on-reads}
 use Rattle.lawful.specs.Looks.{Chained, Clear, Run, done, more, Runs, clears}
 use Rattle.lists.proofs.Finding.{table-at, table-place}
-use Rattle.lawful.proofs.Rows.{true-reads}
 
 -- ---- the test
-
-goes-on-reads : (a b : Wire) → Reads (Follows a b) (goesOn a b)
-unfolding goesOn
-goes-on-reads a b = reads-as (λ t. record { dir = t .0; line = t .1 .0; place = t .1 .1 }, λ f. (f .dir, (f .line, f .place)))
-    (and-reads (beq-reads (a .vertical) (b .vertical)) (and-reads (eqb-reads (a .line) (b .line)) (eqb-reads (a .end) (b .start))))
 
 -- what passing tells
 record Passed (a w : Wire) (i j : Joint) : Type 0 where

@@ -25,11 +25,11 @@ use Rattle.sheet.proofs.RowOrder.{rules-2-7}
 use Rattle.sheet.proofs.Rules.{wired-rules}
 use Rattle.wires.specs.declared.Points.{Points}
 use Rattle.wires.specs.Tables.{pointRows}
-use Rattle.rules.specs.Check.{check1}
-use Rattle.rules.proofs.Decides.{reads1}
+use Rattle.limits.specs.Limits.{check1}
+use Rattle.limits.proofs.Decides.{reads1}
+use Rattle.row_order.proofs.Decides.{true-reads}
 use Rattle.lawful.specs.Looks.{before, Runs}
 use Rattle.lawful.proofs.Ordered.{ordered}
-use Rattle.lawful.proofs.Rows.{true-reads}
 use Rattle.lawful.proofs.Seen.{none-inside, held-apart}
 
 -- what holds in both directions

@@ -2,11 +2,11 @@
 use Prim.Native.Nat.{ℕ, zero, suc, _+_, _≤_, _<_}
 use native.Mathlib.Omega.{arith}
 use mathlib.Core.Bool.{true, _||_, not}
-use mathlib.Core.List.{List, Memᴰ·append-right as ∈-right, List·Memᴰ·not-nil as ∈-nil}
+use mathlib.Core.List.{List, List·Memᴰ·not-nil as ∈-nil}
 use mathlib.Core.Path.{_≡_, sym, subst}
 use mathlib.Core.Logic.{⊎-elim}
 use lib.Dec.{T}
-use lib.ListN.{length, getD, take, drop, take-append-drop}
+use lib.ListN.{length, getD, take, drop}
 use Rattle.lists.specs.Lists.{_∈_, Rows, none, more, links}
 use Rattle.lists.proofs.Tests.{holds, not-reads, or-reads, ltb-reads}
 use Rattle.lists.proofs.Lists.{in-cons, rows-head, links-reads}
@@ -21,6 +21,7 @@ use Rattle.sheet.specs.Parts.{position, box, ahead, PartFits}
 use Rattle.sheet.specs.Rules.{Rule5}
 use Rattle.sheet.proofs.Boxes.{shares-reads}
 use Rattle.sheet.proofs.Points.{rises-reads, rise-chain}
+use Rattle.limits.proofs.Decides.{in-drop}
 use Rattle.lawful.specs.Looks.{far}
 
 -- the component's box shares no point with p
@@ -52,9 +53,6 @@ rows-drop : {A : Type 0} {R : A → A → Type 0} (k : ℕ) {xs : List A} → Ro
 rows-drop zero r = r
 rows-drop (suc k) none = none
 rows-drop (suc k) (more h r) = rows-drop k r
-
-in-drop : {A : Type 0} (k : ℕ) (xs : List A) {x : A} → x ∈ drop k xs → x ∈ xs
-in-drop k xs {x} m = subst (λ l. x ∈ l) (take-append-drop k xs) (∈-right (take k xs) m)
 
 higher : (a b : Component) → Rise (position a) (position b) → a .y ≤ b .y
 higher a b (lower h) = omega arith

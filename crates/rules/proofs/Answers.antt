@@ -2,15 +2,14 @@
 use Prim.Native.Nat.{_≤_, _-_}
 use mathlib.Core.Bool.{Bool, true, false, _&&_, not}
 use mathlib.Core.List.{List}
-use mathlib.Core.Path.{_≡_, refl, sym, ap, subst, _∙_}
+use mathlib.Core.Path.{_≡_, sym, ap, subst, _∙_}
 use native.Mathlib.Omega.{arith}
 use lib.Dec.{T}
 use lib.ListN.{length, length-take, replicate}
 use lib.Seq.{take-append-seam}
 use Rattle.lists.specs.Lists.{any, all, pairs, links}
 use Rattle.lists.specs.Tables.{pad}
-use Rattle.lists.proofs.Tests.{test, holds, and-reads}
-use Rattle.lists.proofs.Lists.{all-reads}
+use Rattle.lists.proofs.Tests.{holds}
 use Rattle.sheet.specs.declared.Joint.{Joint}
 use Rattle.sheet.specs.declared.Joints.{Joints}
 use Rattle.sheet.specs.declared.Drawing.{Drawing}
@@ -19,44 +18,30 @@ use Rattle.sheet.specs.Joints.{place, jointsOf}
 use Rattle.sheet.specs.Parts.{padsOf, ahead}
 use Rattle.sheet.specs.Drawings.{Sheet, joints, zeroJoint, jointTable, jointRows, listsOf, marksOf}
 use Rattle.sheet.specs.Wiring.{AllFit, Room}
-use Rattle.sheet.specs.Rules.{Rule2}
 use Rattle.sheet.proofs.Totals.{joint-room}
-use Rattle.parts.specs.Tables.{PartsFit}
 use Rattle.rules.specs.declared.Touching.{Touching}
-use Rattle.rules.specs.Check.{rooms, blanks, limits, check1, check2, check3, check4, touchingFrom, check6, upward, check7, broken, unlessTouching, fromRule5, checkOf}
-use Rattle.rules.specs.Steps.{free, parted, sameRow, Within}
-use Rattle.rules.proofs.Decides.{fits-reads, component-reads, reads2}
-use Rattle.rules.proofs.Rooms.{in-rooms}
+use Rattle.limits.specs.Limits.{check1}
+use Rattle.limits.proofs.Rooms.{counts-fit, components-fit}
+use Rattle.row_order.specs.RowOrder.{check2, upward, check7}
+use Rattle.row_order.proofs.Decides.{reads2}
+use Rattle.rules.specs.Check.{free, check3, check4, touchingFrom, check6, broken, fromRule5, checkOf}
+use Rattle.rules.specs.Steps.{parted, sameRow, Within}
 use Rattle.rules.proofs.Counted.{rule-3-joints, rule-4-counts, rule-6-rows}
 
 -- ---- what rule 1 tells the later rules
 
-passed-1 : (d : Drawing) → check1 d ≡ true → T (rooms d) × (T (blanks d) × T (limits d))
-unfolding check1
-passed-1 d e = holds (and-reads (test (rooms d)) (and-reads (test (blanks d)) (test (limits d)))) (subst T (sym e) tt)
-
-is-true : (b : Bool) → T b → b ≡ true
-is-true true t = refl
-is-true false t = absurd t
-
 pub within : (d : Drawing) → check1 d ≡ true → Within d
-unfolding limits
-within d e =
-    let t = passed-1 d e in
-    let r = in-rooms d (is-true (rooms d) (t .0)) in
-    let f = holds (and-reads (all-reads fits-reads (listsOf d .wires)) (all-reads component-reads (listsOf d .parts))) (t .1 .1) in
-    record { wires = r .wires; components = record { room = r .components; each = f .1 }; joints = r .joints }
-
-pub wires-fit : (d : Drawing) → check1 d ≡ true → AllFit (listsOf d .wires)
-unfolding limits
-wires-fit d e = holds (and-reads (all-reads fits-reads (listsOf d .wires)) (all-reads component-reads (listsOf d .parts))) (passed-1 d e .1 .1) .0
+within d e = let r = counts-fit d e in record { wires = r .wires; components = record { room = r .components; each = components-fit d e }; joints = r .joints }
 
 -- ---- the joints counted afresh
 
+pub table-rows : {js : Joints} (xs : List Joint) → js ≡ jointTable xs → jointRows js ≡ xs
+unfolding pad
+table-rows xs e = ap jointRows e ∙ take-append-seam xs (replicate (1408 - length xs) zeroJoint)
+
 module _ (d : Drawing) (w : Within d) (js : Joints) (e : js ≡ jointTable (jointsOf (marksOf (listsOf d)))) where
   rows-are : jointRows js ≡ jointsOf (marksOf (listsOf d))
-  unfolding pad
-  rows-are = let xs = jointsOf (marksOf (listsOf d)) in ap jointRows e ∙ take-append-seam xs (replicate (1408 - length xs) zeroJoint)
+  rows-are = table-rows (jointsOf (marksOf (listsOf d))) e
 
   room : Room (listsOf d)
   room = record { wires = omega (arith, length-take (d .wires .count) (d .wires .rows), w .wires); parts = omega (arith, length-take (d .components .count) (d .components .rows), w .components .room) }

@@ -1,26 +1,28 @@
 -- The check tells the first broken rule, and for rule 5 the first pair of boxes that share a point; rule 0 just of a lawful drawing.
 use Prim.Native.Nat.{ℕ, suc, _+_, _<_}
-use mathlib.Core.Bool.{Bool, true, false, not, cond}
+use mathlib.Core.Bool.{Bool, true, false, cond}
 use mathlib.Core.List.{List, [], _∷_, List·Memᴰ·head as ∈-head, List·Memᴰ·tail as ∈-tail, List·Memᴰ·not-nil as ∈-nil}
-use mathlib.Core.Path.{_≡_, refl, sym, ap, _∙_, subst}
+use mathlib.Core.Path.{_≡_, refl, sym, subst}
 use mathlib.Core.Logic.{_↔_}
 use native.Mathlib.Nat.{zero-add}
 use native.Mathlib.Omega.{arith}
 use Rattle.lists.specs.Lists.{_∈_, Rows, none, more}
 use Rattle.lists.proofs.Tests.{Reads, pass, fail}
-use Rattle.lists.proofs.Lists.{in-cons, rows-head, rows-tail}
+use Rattle.lists.proofs.Lists.{in-cons}
 use Rattle.sheet.specs.declared.Component.{Component}
 use Rattle.sheet.specs.declared.Drawing.{Drawing}
 use Rattle.sheet.specs.Parts.{padsOf, touches}
 use Rattle.sheet.specs.Drawings.{listsOf, jointRows, marksOf, Sized}
 use Rattle.sheet.specs.Rules.{Rule5, Lawful}
 use Rattle.sheet.proofs.Parts.{touches-reads}
+use Rattle.limits.proofs.Decides.{reads1}
+use Rattle.row_order.proofs.Decides.{reads2, reads7}
 use Rattle.rules.specs.declared.Checked.{Checked}
 use Rattle.rules.specs.declared.Touching.{Touching}
-use Rattle.rules.specs.Check.{touchingOne, touchingFrom, broken, unless, unlessTouching, check1, check2, check3, check4, check6, check7, fromRule5, checkOf}
+use Rattle.rules.specs.Check.{touchingOne, touchingFrom, broken, unless, unlessTouching, fromRule5, checkOf}
 use Rattle.rules.specs.Check as C
 use Rattle.rules.specs.Verdict.{First, sound, fails, holds, seven, FirstAt, now, next, FirstPair, here, later, Touch, Right}
-use Rattle.rules.proofs.Decides.{reads1, reads2, reads3, reads4, reads6, reads7}
+use Rattle.rules.proofs.Decides.{reads3, reads4, reads6}
 
 -- ---- the first pair
 

@@ -4,8 +4,6 @@ use mathlib.Core.List.{List, _∷_}
 use mathlib.Core.Path.{_≡_, sym, ap, subst, _∙_}
 use mathlib.Core.Logic.{⊎-elim, _⊎_, inl, inr}
 use native.Mathlib.Omega.{arith}
-use Prim.Native.Nat.{_≤_}
-use lib.Dec.{eqb}
 use Rattle.lists.specs.Lists.{_∈_, Rows, any, all, pairs}
 use Rattle.lists.proofs.Tests.{Reads, same-test, stable, decide, reads-as, not-reads, and-reads, or-reads, eqb-reads, beq-reads}
 use Rattle.lists.proofs.Lists.{any-reads, all-reads, pairs-reads}
@@ -13,22 +11,17 @@ use Rattle.symbol.specs.declared.Point.{Point}
 use Rattle.sheet.specs.declared.Wire.{Wire}
 use Rattle.sheet.specs.declared.Joint.{Joint}
 use Rattle.sheet.specs.Points.{same}
-use Rattle.sheet.specs.Lines.{high, tip, marks, inside, Inside, Follows}
+use Rattle.sheet.specs.Lines.{high, tip, marks, Inside, Follows}
 use Rattle.sheet.specs.Joints.{place, number, countAt, jointsOf, Listed}
 use Rattle.sheet.specs.Wiring.{AllFit}
 use Rattle.sheet.specs.Rules.{Rule2, Rule3, Rule4}
 use Rattle.sheet.proofs.Points.{same-reads}
-use Rattle.sheet.proofs.Lines.{inside-reads}
 use Rattle.sheet.proofs.Held.{held-reads}
 use Rattle.sheet.proofs.Rule4.{rule-4, count-two, count-above}
 use Rattle.sheet.proofs.JointRows.{joints-listed, count-joints}
-use Rattle.rules.specs.Check.{check3, check4, check6}
-use Rattle.rules.specs.Steps.{free, goesOn, parted, sameRow}
-use Rattle.rules.proofs.Decides.{reads3, reads4, reads6}
-
-free-reads : (ws : List Wire) (p : Point) → Reads ((w : Wire) → w ∈ ws → Inside p w → ⊥) (free ws p)
-unfolding free
-free-reads ws p = all-reads (λ w. not-reads (inside-reads p w)) ws
+use Rattle.rules.specs.Check.{free, check3, check4, check6}
+use Rattle.rules.specs.Steps.{goesOn, parted, sameRow}
+use Rattle.rules.proofs.Decides.{free-reads, reads3, reads4, reads6}
 
 -- the points of wire ends and pads are those of the joints
 pub rule-3-joints : (ws : List Wire) (ps : List Point) → all (λ j. free ws (place j)) (jointsOf (marks ws ps)) ≡ check3 ws ps
@@ -43,7 +36,7 @@ rule-3-joints ws ps = same-test (reads-as (into, out) (all-reads (λ j. free-rea
     out : Rule3 ws ps → (j : Joint) → j ∈ js → (w : Wire) → w ∈ ws → Inside (place j) w → ⊥
     out r j m = r (place j) (joints-listed (marks ws ps) .only j m)
 
-goes-on-reads : (a b : Wire) → Reads (Follows a b) (goesOn a b)
+pub goes-on-reads : (a b : Wire) → Reads (Follows a b) (goesOn a b)
 unfolding goesOn
 goes-on-reads a b = reads-as (λ t. record { dir = t .0; line = t .1 .0; place = t .1 .1 }, λ f. (f .dir, (f .line, f .place)))
     (and-reads (beq-reads (a .vertical) (b .vertical)) (and-reads (eqb-reads (a .line) (b .line)) (eqb-reads (a .end) (b .start))))
@@ -66,7 +59,7 @@ rule-4-counts {ws} ps fits two = same-test
         (λ t. inr (λ z. let h = count-above ps fits two a (t .0) m (t .1) (t .2) (rule-4 ps fits two .0 r a (t .0) m (t .1) (t .2)) in omega (arith, count-joints (tip high a) (marks ws ps))))
         inl (decide (any-reads (goes-on-reads a) ws))
 
-row-reads : (i j : Joint) → Reads (i ≡ j) (sameRow i j)
+pub row-reads : (i j : Joint) → Reads (i ≡ j) (sameRow i j)
 unfolding sameRow
 row-reads i j = reads-as (
   λ t. λ k. record { x = ap (λ (p : Point). p .x) (t .0) k; y = ap (λ (p : Point). p .y) (t .0) k; count = t .1 k },

@@ -1,6 +1,5 @@
 pub mod Decides
 pub mod Check
-pub mod Rooms
 pub mod Counted
 pub mod Pairs
 pub mod Answers

@@ -1,76 +1,34 @@
--- The drawing check: "names the first broken rule in this order". Each test is that of a rule of `sheet`'s Rules, in its order.
+-- The drawing check: "names the first broken rule in this order". Each test is that of a rule of `sheet`'s Rules, in its order; those of
+-- rules 1, 2 and 7 are `limits`' and `row_order`'s.
 use Prim.Native.Nat.{ℕ, suc}
-use mathlib.Core.Bool.{Bool, true, false, _&&_, _||_, cond, not, Bool·beq}
+use mathlib.Core.Bool.{Bool, true, false, _&&_, _||_, cond, not}
 use mathlib.Core.List.{List, [], _∷_}
-use lib.Dec.{eqb, ltb, leb}
-use lib.ListN.{drop}
-use Rattle.lists.specs.Lists.{any, all, pairs, links}
-use Rattle.orientation.specs.Orientations.{known, zeros, sameOf}
-use Rattle.label.specs.Labels.{labelOk, allZero}
+use lib.Dec.{eqb}
+use Rattle.lists.specs.Lists.{any, all, pairs}
 use Rattle.symbol.specs.declared.Point.{Point}
 use Rattle.sheet.specs.declared.Wire.{Wire}
 use Rattle.sheet.specs.declared.Component.{Component}
 use Rattle.sheet.specs.declared.Joint.{Joint}
 use Rattle.sheet.specs.declared.Drawing.{Drawing}
-use Rattle.sheet.specs.Points.{same, rises}
+use Rattle.sheet.specs.Points.{same}
 use Rattle.sheet.specs.Lines.{ends, marks, inside}
 use Rattle.sheet.specs.Joints.{place, number}
-use Rattle.sheet.specs.Parts.{padsOf, touches, ahead}
-use Rattle.sheet.specs.Drawings.{Sheet, listsOf, jointRows, marksOf}
+use Rattle.sheet.specs.Parts.{padsOf, touches}
+use Rattle.sheet.specs.Drawings.{listsOf, jointRows, marksOf}
 use Rattle.sheet.specs.Rules.{endsAt}
+use Rattle.limits.specs.Limits.{check1}
+use Rattle.row_order.specs.RowOrder.{check2, check7}
 use Rattle.rules.specs.declared.Checked.{Checked}
 use Rattle.rules.specs.declared.Touching.{Touching}
 
--- ---- rule 1
+-- ---- rules 3 and 4
 
--- rows that are all zero
-unfoldable pub blankWire : Wire → Bool
-blankWire w = not (w .vertical) && (eqb (w .line) 0 && (eqb (w .start) 0 && eqb (w .end) 0))
-
-unfoldable pub blankComponent : Component → Bool
-blankComponent c = eqb (c .kind) 0 && (sameOf (c .«rot_mirror») zeros && (eqb (c .x) 0 && (eqb (c .y) 0 && allZero (c .label))))
-
-unfoldable pub blankJoint : Joint → Bool
-blankJoint j = eqb (j .x) 0 && (eqb (j .y) 0 && eqb (j .count) 0)
-
--- the wire meets the limits, with start < end
-unfoldable pub wireFits : Wire → Bool
-wireFits w = leb (w .line) 12000 && (ltb (w .start) (w .end) && leb (w .end) 12000)
-
--- n lies between m and k, both included
-abbrev pub within : ℕ → ℕ → ℕ → Bool
-within m n k = leb m n && leb n k
-
--- the component meets the limits
-unfoldable pub componentFits : Component → Bool
-componentFits c = leb (c .kind) 2 && (known (c .«rot_mirror») && (within 200 (c .x) 11800 && (within 200 (c .y) 11800 && labelOk (c .label))))
-
-unfoldable pub rooms : Drawing → Bool
-rooms d = leb (d .wires .count) 512 && (leb (d .components .count) 128 && leb (d .joints .count) 1408)
-
-unfoldable pub blanks : Drawing → Bool
-blanks d =
-    all blankWire (drop (d .wires .count) (d .wires .rows))
-    && (all blankComponent (drop (d .components .count) (d .components .rows))
-    && all blankJoint (drop (d .joints .count) (d .joints .rows)))
-
-unfoldable pub limits : Drawing → Bool
-limits d = all wireFits (listsOf d .wires) && all componentFits (listsOf d .parts)
-
-unfoldable pub check1 : Drawing → Bool
-check1 d = rooms d && (blanks d && limits d)
-
--- ---- rules 2 to 4
-
--- the two wires are of one direction and share a length of line
-unfoldable pub share : Wire → Wire → Bool
-share a b = Bool·beq (a .vertical) (b .vertical) && (eqb (a .line) (b .line) && (ltb (a .start) (b .end) && ltb (b .start) (a .end)))
-
-unfoldable pub check2 : List Wire → Bool
-check2 ws = pairs (λ a b. not (share a b)) ws
+-- the point lies strictly inside no wire
+unfoldable pub free : List Wire → Point → Bool
+free ws p = all (λ w. not (inside p w)) ws
 
 unfoldable pub check3 : List Wire → List Point → Bool
-check3 ws ps = all (λ p. all (λ w. not (inside p w)) ws) (marks ws ps)
+check3 ws ps = all (free ws) (marks ws ps)
 
 -- the point holds exactly two wire ends, of direction v, and no pad
 unfoldable pub bare : Bool → List Wire → List Point → Point → Bool
@@ -94,22 +52,13 @@ unfoldable pub touchingFrom : ℕ → List Component → Touching
 touchingFrom i [] = none
 touchingFrom i (c ∷ cs) = touchingOne i c (suc i) cs (touchingFrom (suc i) cs)
 
--- ---- rules 6 and 7
+-- ---- rule 6
 
 unfoldable pub check6 : List Joint → List Point → Bool
 check6 js ps =
     pairs (λ i j. not (same (place i) (place j))) js
     && (all (λ p. any (λ j. same (place j) p) js) ps
     && all (λ j. any (same (place j)) ps && eqb (j .count) (number (place j) ps)) js)
-
--- wire b comes after wire a
-unfoldable pub upward : Wire → Wire → Bool
-upward a b =
-    (not (a .vertical) && b .vertical)
-    || (Bool·beq (a .vertical) (b .vertical) && (ltb (a .line) (b .line) || (eqb (a .line) (b .line) && ltb (a .start) (b .start))))
-
-unfoldable pub check7 : Sheet → List Joint → Bool
-check7 s js = links upward (s .wires) && (links ahead (s .parts) && links (λ i j. rises (place i) (place j)) js)
 
 -- ---- the first broken rule
 

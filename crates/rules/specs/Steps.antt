@@ -3,19 +3,14 @@ use mathlib.Core.Bool.{Bool, _&&_, _||_, not, Bool·beq}
 use mathlib.Core.List.{List}
 use Prim.Native.Nat.{_≤_}
 use lib.Dec.{eqb}
-use Rattle.lists.specs.Lists.{any, all}
-use Rattle.symbol.specs.declared.Point.{Point}
+use Rattle.lists.specs.Lists.{any}
 use Rattle.sheet.specs.declared.Wire.{Wire}
 use Rattle.sheet.specs.declared.Joint.{Joint}
 use Rattle.sheet.specs.declared.Drawing.{Drawing}
 use Rattle.parts.specs.Tables.{PartsFit}
 use Rattle.sheet.specs.Points.{same}
-use Rattle.sheet.specs.Lines.{high, tip, inside}
+use Rattle.sheet.specs.Lines.{high, tip}
 use Rattle.sheet.specs.Joints.{place, countAt}
-
--- the point lies strictly inside no wire
-unfoldable pub free : List Wire → Point → Bool
-free ws p = all (λ w. not (inside p w)) ws
 
 -- b goes on in line where a ends
 unfoldable pub goesOn : Wire → Wire → Bool

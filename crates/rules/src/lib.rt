@@ -1,9 +1,7 @@
-// The drawing check, each rule by its own words.
+// The drawing check, each rule by its own words: rules 3 to 6 here, rule 1 in `limits`, rules 2 and 7 in `row_order`.
 pub mod boxes;
 pub mod free;
-pub mod limits;
 pub mod listed;
-pub mod order;
 
 ghost use mathlib.Core.Path.{_≡_};
 ghost use Prim.Native.Nat.{_≤_};
@@ -17,14 +15,14 @@ ghost use Rattle.rules.specs.Steps.{Within};
 use crate::boxes::first_touching;
 use crate::free::all_parted;
 use crate::free::none_inside;
-use crate::limits::within_limits;
 use crate::listed::all_listed;
-use crate::order::components_rise;
-use crate::order::joints_rise;
-use crate::order::wires_apart;
-use crate::order::wires_rise;
 use joints::count_joints;
+use limits::within_limits;
 use parts::pads::all_pads;
+use row_order::components_rise;
+use row_order::joints_rise;
+use row_order::wires_apart;
+use row_order::wires_rise;
 use sheet::Components;
 use sheet::Drawing;
 use sheet::Joints;

@@ -7,7 +7,7 @@ use Rattle.sheet.specs.Joints.{jointsOf}
 use Rattle.sheet.specs.Drawings.{wireRows, jointRows}
 use Rattle.sheet.proofs.Owned.{owned}
 use Rattle.wires.specs.Tables.{pointRows}
-use Rattle.rules.specs.Check.{check1}
+use Rattle.limits.specs.Limits.{check1}
 use Rattle.rules.specs.Steps.{Within}
 use Rattle.rules.proofs.Answers.{within}
 use Rattle.lawful.proofs.Sound.{all-sound}

@@ -2,7 +2,8 @@
 use mathlib.Core.Path.{_∙_, sym}
 use borrow.Author.Needs.{needs}
 use borrow.Author.Tests.{not-false, not-true}
-use Rattle.rules.proofs.Answers.{within, wires-fit, joints-fit, by-3, by-4, at-1, at-2, at-3, at-4, past-4}
+use Rattle.limits.proofs.Rooms.{wires-fit}
+use Rattle.rules.proofs.Answers.{within, joints-fit, by-3, by-4, at-1, at-2, at-3, at-4, past-4}
 use Rattle.rules.proofs.check_plainly.Statement.{statement}
 use Rattle.rules.proofs.check_plainly.Tie as tie
 
