@@ -1,13 +1,13 @@
 -- `step::step` meets its contract: each command's edit, told by its letter.
 use mathlib.Core.Bool.{true, false}
-use mathlib.Core.Path.{sym, _∙_}
+use mathlib.Core.Path.{refl, sym, _∙_}
 use native.Mathlib.Omega.{arith}
-use Rattle.asked.proofs.Handed.{handed-three}
 use Rattle.redraw.specs.Calls.{addWire, deleteAt, rotateAt, mirrorAt}
+use Rattle.script.specs.declared.Command.the-variants.{Horizontal, Vertical, Delete, Turn, Mirror}
 use Rattle.script.proofs.Labels.{label-inside}
-use Rattle.step.specs.Steps.{noTally, does}
+use Rattle.step.specs.Steps.{plainly, countedly, noTally, does}
 use Rattle.step.proofs.Choosing.{line-placed}
-use Rattle.step.proofs.Lawfulness.{by-command, plain-as, counted-as}
+use Rattle.step.proofs.Lawfulness.{by-command, by-three, plain-as}
 use borrow.Author.Needs.{needs}
 use Rattle.step.proofs.step.Statement.{statement}
 use Rattle.step.proofs.step.Tie as tie
@@ -27,24 +27,18 @@ unfolding does
 returns c =
     let a = c .before .before in
     let e = a .before .before in
-    let k = e .before .known-told .given in
-    let v = e .before .before .y .given in
     let r = e .before .before .before .before in
     let s = r .before .before .before in
-    by-command (s .pre .1) (s .args .line .now) (sym (r .read-line .ensures) ∙ v .1)
-    (plain-as (e .add-wire-on .ensures ∙ handed-three (λ p q n. addWire (s .args .d) false p q n noTally) _ _ _ (record { sfits = k .0 .1 }) (record { sfits = k .1 .0 .1 }) (record { sfits = k .1 .1 .0 .1 })) (a .tell .ensures))
+    by-three (s .pre .1) (s .args .line .now) Horizontal plainly (λ p q n. addWire (s .args .d) false p q n noTally) (λ p q n. refl) (r .read-line .ensures) (e .before .before .y .given .1) (e .before .known-told .given) (e .add-wire-on .ensures) (a .tell .ensures)
 
 returns-2 : tie.Need-returns-2
 unfolding does
 returns-2 c =
     let a = c .before .before in
     let e = a .before .before in
-    let k = e .before .known-told2 .given in
-    let v = e .before .before .x .given in
     let r = e .before .before .before .before in
     let s = r .before .before .before in
-    by-command (s .pre .1) (s .args .line .now) (sym (r .read-line .ensures) ∙ v .1)
-    (plain-as (e .add-wire-on2 .ensures ∙ handed-three (λ p q n. addWire (s .args .d) true p q n noTally) _ _ _ (record { sfits = k .0 .1 }) (record { sfits = k .1 .0 .1 }) (record { sfits = k .1 .1 .0 .1 })) (a .tell2 .ensures))
+    by-three (s .pre .1) (s .args .line .now) Vertical plainly (λ p q n. addWire (s .args .d) true p q n noTally) (λ p q n. refl) (r .read-line .ensures) (e .before .before .x .given .1) (e .before .known-told2 .given) (e .add-wire-on2 .ensures) (a .tell2 .ensures)
 
 returns-3 : tie.Need-returns-3
 unfolding does
@@ -63,36 +57,27 @@ unfolding does
 returns-4 c =
     let a = c .before .before in
     let e = a .before .before in
-    let k = e .before .known-told4 .given in
-    let v = e .before .before .x2 .given in
     let r = e .before .before .before .before in
     let s = r .before .before .before in
-    by-command (s .pre .1) (s .args .line .now) (sym (r .read-line .ensures) ∙ v .1)
-    (plain-as (e .delete-on .ensures ∙ handed-three (λ p q n. deleteAt (s .args .d) p q n noTally) _ _ _ (record { sfits = k .0 .1 }) (record { sfits = k .1 .0 .1 }) (record { sfits = k .1 .1 .0 .1 })) (a .tell4 .ensures))
+    by-three (s .pre .1) (s .args .line .now) Delete plainly (λ p q n. deleteAt (s .args .d) p q n noTally) (λ p q n. refl) (r .read-line .ensures) (e .before .before .x2 .given .1) (e .before .known-told4 .given) (e .delete-on .ensures) (a .tell4 .ensures)
 
 returns-5 : tie.Need-returns-5
 unfolding does
 returns-5 c =
     let a = c .before .before in
     let e = a .before .before in
-    let k = e .before .known-told5 .given in
-    let v = e .before .before .x3 .given in
     let r = e .before .before .before .before in
     let s = r .before .before .before in
-    by-command (s .pre .1) (s .args .line .now) (sym (r .read-line .ensures) ∙ v .1)
-    (counted-as (e .rotate-on .ensures ∙ handed-three (λ p q n. rotateAt (s .args .d) p q n noTally) _ _ _ (record { sfits = k .0 .1 }) (record { sfits = k .1 .0 .1 }) (record { sfits = k .1 .1 .0 .1 })) (a .tell-counts .ensures))
+    by-three (s .pre .1) (s .args .line .now) Turn countedly (λ p q n. rotateAt (s .args .d) p q n noTally) (λ p q n. refl) (r .read-line .ensures) (e .before .before .x3 .given .1) (e .before .known-told5 .given) (e .rotate-on .ensures) (a .tell-counts .ensures)
 
 returns-6 : tie.Need-returns-6
 unfolding does
 returns-6 c =
     let a = c .before .before in
     let e = a .before .before in
-    let k = e .before .known-told6 .given in
-    let v = e .before .before .x4 .given in
     let r = e .before .before .before .before in
     let s = r .before .before .before in
-    by-command (s .pre .1) (s .args .line .now) (sym (r .read-line .ensures) ∙ v .1)
-    (counted-as (e .mirror-on .ensures ∙ handed-three (λ p q n. mirrorAt (s .args .d) p q n noTally) _ _ _ (record { sfits = k .0 .1 }) (record { sfits = k .1 .0 .1 }) (record { sfits = k .1 .1 .0 .1 })) (a .tell-counts2 .ensures))
+    by-three (s .pre .1) (s .args .line .now) Mirror countedly (λ p q n. mirrorAt (s .args .d) p q n noTally) (λ p q n. refl) (r .read-line .ensures) (e .before .before .x4 .given .1) (e .before .known-told6 .given) (e .mirror-on .ensures) (a .tell-counts2 .ensures)
 
 returns-7 : tie.Need-returns-7
 unfolding does
