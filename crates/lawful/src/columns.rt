@@ -41,6 +41,7 @@ pub fn by_column(js: Joints) -> Columns
     out
 }
 
+// A row number of a table as an index.
 pub fn index(n: u16) -> usize
     ensures { λ r. ⌜ r ≡ n ⌝ }
 {

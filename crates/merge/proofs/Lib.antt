@@ -1,4 +1,5 @@
 pub mod Chaining
+pub mod Seeking
 pub mod Coding
 pub mod Flagging
 pub mod Merging

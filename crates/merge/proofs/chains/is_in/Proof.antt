@@ -3,7 +3,7 @@ use Prim.Native.Nat.{ℕ, _≤_, _-_}
 use mathlib.Core.Path.{sym, ap, _∙_}
 use lib.ListN.{take, getD, length-take}
 use lib.Seq.{getD-take}
-use Rattle.merge.proofs.Chaining.{Sought, sought-start, sought-at, sought-falls, sought-next, sought-here, sought-end}
+use Rattle.merge.proofs.Seeking.{Sought, sought-start, sought-at, sought-falls, sought-next, sought-here, sought-end}
 use native.Mathlib.Omega.{arith}
 use Rattle.merge.proofs.chains.is_in.Statement.{statement}
 use Rattle.merge.proofs.chains.is_in.Tie as tie
