@@ -1,15 +1,10 @@
 -- A line leaves a lawful drawing lawful, and what the code answers to a command is what the line's step answers.
-use mathlib.Core.Path.{_≡_, sym, ap, subst, _∙_}
+use mathlib.Core.Path.{_≡_, sym, subst}
 use mathlib.Core.Bool.{true, false}
 use mathlib.Core.Logic.{⊎-elim}
 use mathlib.Core.List.{List}
-use Prim.Native.Nat.{ℕ, _<_, _^_}
-use lib.IntN.{ℤ}
-use lib.Signed.{mag}
-use mir.Syntax.{w32}
-use mir.Val.{hbits}
+use Prim.Native.Nat.{ℕ}
 use Rattle.lists.proofs.Tests.{decide, eqb-reads}
-use Rattle.asked.proofs.Handed.{bits, handed-three}
 use Rattle.sheet.specs.declared.Drawing.{Drawing}
 use Rattle.sheet.specs.Rules.{Lawful}
 use Rattle.redraw.specs.declared.Edited.{Edited}
@@ -18,7 +13,7 @@ use Rattle.script.specs.declared.Command.{Command}
 use Rattle.script.specs.declared.Command.the-variants.{Horizontal, Vertical, Place, Delete, Turn, Mirror, Nets, Unreadable}
 use Rattle.script.specs.Reading.{commandOf}
 use Rattle.step.specs.declared.Stepped.{Stepped}
-use Rattle.step.specs.Steps.{After, plainly, noTally, does, stepOf, Answers}
+use Rattle.step.specs.Steps.{plainly, noTally, does, stepOf, Answers}
 use Rattle.step.proofs.Kept.{Kept, wire-kept, component-kept, delete-kept, rotate-kept, mirror-kept}
 
 module _ {d : Drawing} (l : Lawful d) where
@@ -51,13 +46,3 @@ module _ {d : Drawing} (l : Lawful d) where
 -- what is told of an edit is told of the same edit under another name
 pub plain-as : {old new : List ℕ} {r : Stepped} {e e′ : Edited} → e ≡ e′ → Answers (plainly e) old new r → Answers (plainly e′) old new r
 plain-as {old} {new} {r} = subst (λ x. Answers (plainly x) old new r)
-
--- an edit by a line's three numbers, which the code hands on as bits and which fit them, as it tells
-module _ {d : Drawing} (l : Lawful d) (line : List ℕ) (k : ℤ → ℤ → ℤ → Command) (tells : Edited → After) (f : ℤ → ℤ → ℤ → Edited)
-    (does-so : (x y z : ℤ) → does d line (k x y z) ≡ tells (f x y z)) where
-  pub by-three : {x y z : ℤ} {said : Command} {e : Edited} {old new : List ℕ} {r : Stepped} {P Q R S : Type 0} → said ≡ commandOf line → said ≡ k x y z
-      → (P × (mag x < 2 ^ hbits w32)) × ((Q × (mag y < 2 ^ hbits w32)) × ((R × (mag z < 2 ^ hbits w32)) × S))
-      → e ≡ f (bits x) (bits y) (bits z) → Answers (tells e) old new r → Answers (stepOf d line) old new r × Lawful (r .drawing)
-  by-three {x} {y} {z} {said} {e} {old} {new} {r} is-line is-k fits is-f told =
-      let same : e ≡ f x y z = is-f ∙ handed-three f x y z (record { sfits = fits .0 .1 }) (record { sfits = fits .1 .0 .1 }) (record { sfits = fits .1 .1 .0 .1 }) in
-      by-command l line (sym is-line ∙ is-k) (subst (λ a. Answers a old new r) (ap tells same ∙ sym (does-so x y z)) told)
