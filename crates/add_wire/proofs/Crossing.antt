@@ -1,14 +1,13 @@
 -- A wire that the new one does not meet is split at its standing joints only where the two cross at one of them.
-use Prim.Native.Nat.{ℕ, _≤_}
+use Prim.Native.Nat.{_≤_}
 use native.Mathlib.Omega.{arith}
 use mathlib.Core.Path.{_≡_, refl, sym, ap, _∙_, subst}
 use mathlib.Core.List.{List, [], _∷_, _++_, List·Memᴰ·head as ∈-head, List·Memᴰ·tail as ∈-tail, List·Memᴰ·not-nil as ∈-nil, Memᴰ·cast as ∈-cast}
 use mathlib.Core.Logic.{⊎-elim}
-use mathlib.Core.Bool.{Bool, true, false, _&&_, cond, not, Bool·beq, false≢true}
-use lib.Dec.{eqb}
+use mathlib.Core.Bool.{Bool, true, false, _&&_, cond, not, Bool·beq}
 use lib.ListN.{getD}
 use Rattle.symbol.specs.declared.Point.{Point}
-use Rattle.lists.specs.Lists.{_∈_, any, gather}
+use Rattle.lists.specs.Lists.{_∈_, gather}
 use Rattle.lists.proofs.Tests.{Reads, pass, fail, decide, choose, reads-as, and-reads, eqb-reads, same-or-turned}
 use Rattle.lists.proofs.Lists.{any-reads, in-cons, in-one}
 use Rattle.sheet.specs.declared.Wire.{Wire}
@@ -19,11 +18,6 @@ use Rattle.sheet.proofs.Pieces.{one-none}
 use Rattle.sheet.proofs.Split.{all-none}
 use Rattle.sheet.proofs.Reach.{on-meets}
 use Rattle.add_wire.specs.Marks.{Marked, crossing, isCrossed, cutAcross}
-use Rattle.add_wire.proofs.Marking.{on-true}
-
-turned-along : (d : Bool) (p : Point) → along (not d) p ≡ across d p
-turned-along true p = refl
-turned-along false p = refl
 
 turned-across : (d : Bool) (p : Point) → across (not d) p ≡ along d p
 turned-across true p = refl
@@ -32,10 +26,6 @@ turned-across false p = refl
 inside-on : {p : Point} {w : Wire} → Inside p w → On p w
 inside-on i = record { line = i .line; from = omega (arith, i .from); to = omega (arith, i .to) }
 
-and-first : (x y : Bool) → (x && y) ≡ true → x ≡ true
-and-first true y e = refl
-and-first false y e = absurd (false≢true e)
-
 not-same : (d : Bool) → Bool·beq d d ≡ true
 not-same true = refl
 not-same false = refl
@@ -43,37 +33,6 @@ not-same false = refl
 not-turned : (d : Bool) → Bool·beq (not d) d ≡ false
 not-turned true = refl
 not-turned false = refl
-
--- ---- the test, by cases
-
-module _ (n : Wire) (marks : List Bool) (w : Wire) where
-  pub crossed-in-line : Bool·beq (w .vertical) (n .vertical) ≡ true → false ≡ isCrossed n marks w
-  unfolding isCrossed
-  crossed-in-line e = rw e
-
-  module _ {p : Point} {x y : Bool} (e : Bool·beq (w .vertical) (n .vertical) ≡ false) (q : p ≡ crossing n w) (f : x ≡ on p n) (g : y ≡ inside p w) where
-    met-is : isCrossed n marks w ≡ ((x && y) && getD marks (w .line) false)
-    unfolding isCrossed
-    met-is = rw (e, f, g, q)
-
-    pub crossed-marked : (x && y) ≡ true → getD marks (w .line) false ≡ isCrossed n marks w
-    crossed-marked t = sym (met-is ∙ rw t)
-
-    pub crossed-missed : (x && y) ≡ false → false ≡ isCrossed n marks w
-    crossed-missed t = sym (met-is ∙ rw t)
-
-    pub crossed-low : (x && y) ≡ true → w .line ≤ n .end
-    crossed-low t = let o = on-true p n (sym f ∙ and-first x y t) in omega (arith, o .to, ap (along (n .vertical)) q, along-point (n .vertical) (n .line) (w .line))
-
-  pub across-cut : isCrossed n marks w ≡ true → cutAcross n marks w ≡ left (crossing n w) w ∷ right (crossing n w) w ∷ []
-  unfolding cutAcross
-  across-cut e = rw e
-
-  pub across-whole : isCrossed n marks w ≡ false → cutAcross n marks w ≡ w ∷ []
-  unfolding cutAcross
-  across-whole e = rw e
-
--- ---- the split
 
 module _ (n w : Wire) where
   -- the one point on n that can lie in a wire across it

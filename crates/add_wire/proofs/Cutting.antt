@@ -1,30 +1,26 @@
--- A wire cut at marked places one after another is the wire split at the points that lie there, in whatever order those come.
+-- A wire cut at marked places one after another: one more cut is one more mark.
 use Prim.Native.Nat.{ℕ, zero, suc, _+_, _≤_, _<_}
-use native.Mathlib.Nat.{not-suc-le-zero}
 use native.Mathlib.Omega.{arith}
 use mathlib.Core.Path.{_≡_, refl, sym, ap, _∙_, subst}
-use mathlib.Core.List.{List, [], _∷_, _++_, List·Memᴰ·head as ∈-head, List·Memᴰ·tail as ∈-tail}
+use mathlib.Core.List.{List, [], _∷_, _++_}
 use mathlib.Core.Logic.{⊎-elim, _⊎_, inl, inr}
-use mathlib.Core.Bool.{Bool, true, false, _&&_, _||_, cond, or-true, or-false, or-assoc, false≢true}
-use borrow.Author.Tests.{eq-eqb, ne-eqb, eqb-true}
-use lib.Dec.{eqb, ltb}
-use Rattle.symbol.specs.declared.Point.{Point}
-use Rattle.lists.specs.Lists.{_∈_, any, gather}
-use Rattle.lists.proofs.Tests.{Reads, pass, fail, decide, test, choose, ltb-reads, and-reads, compare}
+use mathlib.Core.Bool.{Bool, true, false, _&&_, _||_, cond, or-true, false≢true}
+use borrow.Author.Tests.{eq-eqb, eqb-true}
+use lib.Dec.{eqb}
+use Rattle.lists.specs.Lists.{gather}
+use Rattle.lists.proofs.Tests.{Reads, decide, choose, ltb-reads, and-reads, compare}
 use Rattle.sheet.specs.declared.Wire.{Wire}
-use Rattle.sheet.specs.Lines.{along, across, inside}
-use Rattle.sheet.specs.Split.{splitOne, splitAt, splitAll}
 use Rattle.add_wire.specs.Marks.{upTo, fromOn, within, cutFrom}
 
 -- strictly inside
-abbrev In : ℕ → Wire → Type 0
+abbrev pub In : ℕ → Wire → Type 0
 In b v = (v .start < b) × (b < v .end)
 
 within-reads : (b : ℕ) (v : Wire) → Reads (In b v) (within b v)
 within-reads b v = and-reads (ltb-reads (v .start) b) (ltb-reads b (v .end))
 
 -- one cut
-abbrev cutAt : ℕ → Wire → List Wire
+abbrev pub cutAt : ℕ → Wire → List Wire
 cutAt b v = cond (within b v) (upTo b v ∷ fromOn b v ∷ []) (v ∷ [])
 
 cut-in : (b : ℕ) (v : Wire) → In b v → cutAt b v ≡ upTo b v ∷ fromOn b v ∷ []
@@ -35,11 +31,11 @@ cut-out b v f = choose (within-reads b v) (λ l. l ≡ v ∷ []) (λ p. absurd (
 
 -- a step of the scan, by whether it cuts
 module _ (m : ℕ → Bool) (a k : ℕ) (v : Wire) where
-  cuts : m a ≡ true → In a v → cutFrom m a (suc k) v ≡ upTo a v ∷ cutFrom m (suc a) k (fromOn a v)
+  pub cuts : m a ≡ true → In a v → cutFrom m a (suc k) v ≡ upTo a v ∷ cutFrom m (suc a) k (fromOn a v)
   unfolding cutFrom
   cuts e h = rw e (choose (within-reads a v) (λ l. l ≡ upTo a v ∷ cutFrom m (suc a) k (fromOn a v)) (λ p. refl) (λ f. absurd (f h)))
 
-  skips : (m a ≡ true → In a v → ⊥) → cutFrom m a (suc k) v ≡ cutFrom m (suc a) k v
+  pub skips : (m a ≡ true → In a v → ⊥) → cutFrom m a (suc k) v ≡ cutFrom m (suc a) k v
   unfolding cutFrom
   skips f = step (m a) refl
     where
@@ -48,7 +44,7 @@ module _ (m : ℕ → Bool) (a k : ℕ) (v : Wire) where
       step true e = choose (within-reads a v) (λ l. l ≡ cutFrom m (suc a) k v) (λ p. absurd (f e p)) (λ n. refl)
 
   -- which of the two
-  whether : ((m a ≡ true) × In a v) ⊎ (m a ≡ true → In a v → ⊥)
+  pub whether : ((m a ≡ true) × In a v) ⊎ (m a ≡ true → In a v → ⊥)
   whether = step (m a) refl
     where
       step : (b : Bool) → m a ≡ b → ((m a ≡ true) × In a v) ⊎ (m a ≡ true → In a v → ⊥)
@@ -136,53 +132,3 @@ module _ (m : ℕ → Bool) (b : ℕ) where
       (λ (h : In b v). next-cut a k v h (f h .0) (f h .1))
       (λ (n : In b v → ⊥). outside a k v n ∙ sym (unmarked a k v n))
       (decide (within-reads b v))
-
--- ---- all cuts
-
--- only what is marked of the places to come counts
-cut-as : (m n : ℕ → Bool) (a k : ℕ) (v : Wire) → ((c : ℕ) → a ≤ c → c < a + k → m c ≡ n c) → cutFrom m a k v ≡ cutFrom n a k v
-unfolding cutFrom
-cut-as m n a zero v e = refl
-cut-as m n a (suc k) v e =
-    let rest : (u : Wire) → cutFrom m (suc a) k u ≡ cutFrom n (suc a) k u = λ u. cut-as m n (suc a) k u (λ c g l. e c (omega arith) (omega arith)) in
-    λ i. cond (e a (omega arith) (omega arith) i && within a v) (upTo a v ∷ rest (fromOn a v) i) (rest v i)
-
-none-cut : (a k : ℕ) (v : Wire) → cutFrom (λ c. false) a k v ≡ v ∷ []
-unfolding cutFrom
-none-cut a zero v = refl
-none-cut a (suc k) v = none-cut (suc a) k v
-
--- a point on the wire's line splits it as a cut at its place does
-split-cut : (q : Point) (v : Wire) → v .line ≡ across (v .vertical) q → splitOne q v ≡ cutAt (along (v .vertical) q) v
-unfolding splitOne inside
-split-cut q v e = rw (eq-eqb (v .line) (across (v .vertical) q) e)
-
-pieces-cut : (q : Point) (m : ℕ → Bool) (a k : ℕ) (v : Wire) → v .line ≡ across (v .vertical) q → gather (splitOne q) (cutFrom m a k v) ≡ gather (cutAt (along (v .vertical) q)) (cutFrom m a k v)
-unfolding gather cutFrom
-pieces-cut q m a zero v e = ap (λ (l : List Wire). l ++ []) (split-cut q v e)
-pieces-cut q m a (suc k) v e = ⊎-elim
-    (λ (t : (m a ≡ true) × In a v). let w = cuts m a k v (t .0) (t .1) in
-    ap (gather (splitOne q)) w ∙ (λ i. split-cut q (upTo a v) e i ++ pieces-cut q m (suc a) k (fromOn a v) e i) ∙ sym (ap (gather (cutAt (along (v .vertical) q))) w))
-    (λ (n : m a ≡ true → In a v → ⊥). let w = skips m a k v n in ap (gather (splitOne q)) w ∙ pieces-cut q m (suc a) k v e ∙ sym (ap (gather (cutAt (along (v .vertical) q))) w))
-    (whether m a k v)
-
--- a point on the line, whose place, if it is strictly inside, is one of the k from a on
-pub record Aimed (v : Wire) (a k : ℕ) (q : Point) : Type 0 where
-  pub line : v .line ≡ across (v .vertical) q
-  pub among : In (along (v .vertical) q) v → (a ≤ along (v .vertical) q) × (along (v .vertical) q < a + k)
-
-all-cut : (qs : List Point) (m : ℕ → Bool) (a k : ℕ) (v : Wire) → ((q : Point) → q ∈ qs → Aimed v a k q) → splitAll qs (cutFrom m a k v) ≡ cutFrom (λ c. m c || any (λ q. eqb (along (v .vertical) q) c) qs) a k v
-unfolding splitAll splitAt any
-all-cut [] m a k v h = cut-as m (λ c. m c || false) a k v (λ c g l. sym (or-false (m c)))
-all-cut (q ∷ qs) m a k v h =
-    let t = h q (∈-head refl) in
-    ap (splitAll qs) (pieces-cut q m a k v (t .line) ∙ any-cut m (along (v .vertical) q) a k v (t .among))
-    ∙ all-cut qs (λ c. m c || eqb (along (v .vertical) q) c) a k v (λ p i. h p (∈-tail i))
-    ∙ cut-as _ _ a k v (λ c g l. or-assoc (m c) (eqb (along (v .vertical) q) c) (any (λ p. eqb (along (v .vertical) p) c) qs))
-
--- the wire split at the points, as cuts at their places
-pub split-cuts : (qs : List Point) (m : ℕ → Bool) (a k : ℕ) (v : Wire) → ((q : Point) → q ∈ qs → Aimed v a k q) → ((c : ℕ) → a ≤ c → c < a + k → m c ≡ any (λ q. eqb (along (v .vertical) q) c) qs)
-    → cutFrom m a k v ≡ splitAll qs (v ∷ [])
-split-cuts qs m a k v h e =
-    cut-as m (λ c. any (λ q. eqb (along (v .vertical) q) c) qs) a k v e
-    ∙ sym (ap (splitAll qs) (sym (none-cut a k v)) ∙ all-cut qs (λ c. false) a k v h)

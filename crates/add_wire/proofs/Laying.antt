@@ -25,7 +25,7 @@ use Rattle.wires.specs.declared.Grown.{Grown}
 use Rattle.wires.specs.Tables.{Grows, Cut}
 use Rattle.wires.proofs.Growing.{grows-as, cut-more, still-full}
 use Rattle.add_wire.specs.Marks.{Marked, Adds, cutAcross, cutFrom}
-use Rattle.add_wire.proofs.Cutting.{Aimed, split-cuts}
+use Rattle.add_wire.proofs.Pointed.{Aimed, split-cuts}
 use Rattle.add_wire.proofs.Crossing.{cut-across}
 use Rattle.add_wire.proofs.Adding.{adds-more}
 

@@ -4,5 +4,7 @@ pub mod Letters
 pub mod Labels
 pub mod Counts
 pub mod Lines
+mod Parts
+mod Rows
 pub mod Meaning
 mod Examples

@@ -125,7 +125,6 @@ fn labelled_row(
                 label: at + 1,
             };
         }
-        return Said::Unreadable;
     }
     Said::Unreadable
 }

@@ -9,7 +9,7 @@ use lib.Seq.{getD-set-same, getD-set-other}
 use Rattle.lists.proofs.Tests.{decide, choose, eqb-reads, ltb-reads}
 use Rattle.sheet.specs.declared.Joint.{Joint}
 use Rattle.sheet.specs.Drawings.{zeroJoint}
-use Rattle.lawful.specs.Looks.{columnOf, Chained}
+use Rattle.lawful.specs.Looks.{columnOf, nextRow, Chained}
 
 pub column-in : (x : ℕ) → x < 12001 → x ≡ columnOf x
 unfolding columnOf
@@ -18,6 +18,21 @@ column-in x h = choose (ltb-reads x 12001) (λ (r : ℕ). x ≡ r) (λ p. refl) 
 pub column-out : (x : ℕ) → (x < 12001 → ⊥) → 0 ≡ columnOf x
 unfolding columnOf
 column-out x f = choose (ltb-reads x 12001) (λ (r : ℕ). 0 ≡ r) (λ p. absurd (f p)) (λ n. refl)
+
+pub next-in : (next : List ℕ) (n k : ℕ) → k < n → getD next k 0 ≡ nextRow next n k
+unfolding nextRow
+next-in next n k h = choose (ltb-reads k n) (λ (r : ℕ). getD next k 0 ≡ r) (λ p. refl) (λ m. absurd (m h))
+
+pub next-out : (next : List ℕ) (n k : ℕ) → (k < n → ⊥) → n ≡ nextRow next n k
+unfolding nextRow
+next-out next n k f = choose (ltb-reads k n) (λ (r : ℕ). n ≡ r) (λ p. absurd (f p)) (λ m. refl)
+
+-- only a row among the n rows has a next one below n
+pub next-below : (next : List ℕ) (n k : ℕ) {r : ℕ} → r ≡ nextRow next n k → r < n → (k < n) × (r ≡ getD next k 0)
+next-below next n k {r} e h = ⊎-elim
+    (λ (g : k < n). (g, e ∙ sym (next-in next n k g)))
+    (λ (g : k < n → ⊥). absurd (omega (arith, next-out next n k g)))
+    (decide (ltb-reads k n))
 
 -- the column of row q
 abbrev col : List Joint → ℕ → ℕ

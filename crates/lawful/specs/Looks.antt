@@ -26,6 +26,10 @@ before a b =
 unfoldable pub columnOf : ℕ → ℕ
 columnOf x = cond (ltb x 12001) x 0
 
+-- the row that next has for row k; n if row k is not among the n rows
+unfoldable pub nextRow : List ℕ → ℕ → ℕ → ℕ
+nextRow next n k = cond (ltb k n) (getD next k 0) n
+
 -- between a row and the one that next has for it, no row is of its column
 pub record Chained (rows : List Joint) (count : ℕ) (next : List ℕ) : Type 0 where
   pub none : (k q : ℕ) → k < q → q < count → q < getD next k 0 → getD rows k zeroJoint .x ≡ getD rows q zeroJoint .x → ⊥

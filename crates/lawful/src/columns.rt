@@ -1,7 +1,7 @@
 // The joints of each column in a row: joint rows rise by y, so the next one in its column is the next one up.
 ghost use mathlib.Core.Path.{_≡_};
 ghost use Prim.Native.Nat.{_≤_, _<_};
-ghost use Rattle.lawful.specs.Looks.{columnOf, Chained};
+ghost use Rattle.lawful.specs.Looks.{columnOf, nextRow, Chained};
 use sheet::Joints;
 
 // For each column its first joint row, and for each joint row the next one in its column; 1,408 where there is none.
@@ -39,4 +39,22 @@ pub fn by_column(js: Joints) -> Columns
         k = m;
     }
     out
+}
+
+// A row number of a table as an index.
+pub fn index(n: u16) -> usize
+    ensures { λ r. ⌜ r ≡ n ⌝ }
+{
+    n as usize
+}
+
+// The joint row behind row k of its column, in `next`; n where row k is not among the n rows.
+pub fn next_row(next: &[u16; 1408], n: usize, k: usize) -> usize
+    requires { ⌜ n ≤ 1408 ⌝ }
+    ensures { λ r. ⌜ r ≡ nextRow (now (next .entry)) n k ⌝ }
+{
+    if k < n {
+        return index(next[k]);
+    }
+    n
 }

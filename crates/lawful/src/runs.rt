@@ -8,6 +8,8 @@ ghost use Rattle.sheet.specs.Drawings.{wireRows, jointRows};
 ghost use Rattle.lawful.specs.Looks.{clears, Runs};
 use crate::columns::by_column;
 use crate::columns::column;
+use crate::columns::index;
+use crate::columns::next_row;
 use sheet::Joint;
 use sheet::Joints;
 use sheet::Wire;
@@ -55,12 +57,6 @@ pub fn levels_clear(ws: Wires, js: Joints) -> bool
     true
 }
 
-fn index(n: u16) -> usize
-    ensures { λ r. ⌜ r ≡ n ⌝ }
-{
-    n as usize
-}
-
 // Vertical wires: each column is followed along its own chain, and first tells how far.
 pub fn uprights_clear(ws: Wires, js: Joints) -> bool
     requires { ⌜ (ws .count ≤ 512) × ((js .count ≤ 1408) × Rising (jointRows js)) ⌝ }
@@ -84,10 +80,7 @@ pub fn uprights_clear(ws: Wires, js: Joints) -> bool
         } else {
             let c = column(w.line);
             let k = index(cols.first[c]);
-            if m <= k {
-                return false;
-            }
-            let r = index(cols.next[k]);
+            let r = next_row(&cols.next, m, k);
             if m <= r {
                 return false;
             }

@@ -13,7 +13,7 @@ use Rattle.script.specs.declared.Command.{Command}
 use Rattle.script.specs.declared.Command.the-variants.{Horizontal, Vertical, Place, Delete, Turn, Mirror, Nets, Unreadable}
 use Rattle.script.specs.Reading.{commandOf}
 use Rattle.step.specs.declared.Stepped.{Stepped}
-use Rattle.step.specs.Steps.{plainly, countedly, noTally, does, stepOf, Answers}
+use Rattle.step.specs.Steps.{plainly, noTally, does, stepOf, Answers}
 use Rattle.step.proofs.Kept.{Kept, wire-kept, component-kept, delete-kept, rotate-kept, mirror-kept}
 
 module _ {d : Drawing} (l : Lawful d) where
@@ -44,9 +44,5 @@ module _ {d : Drawing} (l : Lawful d) where
   )
 
 -- what is told of an edit is told of the same edit under another name
-module _ {old new : List ℕ} {r : Stepped} {e e′ : Edited} (is : e ≡ e′) where
-  pub plain-as : Answers (plainly e) old new r → Answers (plainly e′) old new r
-  plain-as = subst (λ x. Answers (plainly x) old new r) is
-
-  pub counted-as : Answers (countedly e) old new r → Answers (countedly e′) old new r
-  counted-as = subst (λ x. Answers (countedly x) old new r) is
+pub plain-as : {old new : List ℕ} {r : Stepped} {e e′ : Edited} → e ≡ e′ → Answers (plainly e) old new r → Answers (plainly e′) old new r
+plain-as {old} {new} {r} = subst (λ x. Answers (plainly x) old new r)

@@ -3,7 +3,7 @@ use Prim.Native.Nat.{ℕ, _≤_, _-_}
 use mathlib.Core.Path.{sym, ap, _∙_}
 use lib.ListN.{take, getD, length-take}
 use lib.Seq.{getD-take}
-use Rattle.chains.proofs.Chaining.{Sought, sought-start, sought-at, sought-falls, sought-next, place-here, place-none}
+use Rattle.chains.proofs.Seeking.{Sought, sought-start, sought-at, sought-falls, sought-next, place-here, place-none}
 use native.Mathlib.Omega.{arith}
 use Rattle.chains.proofs.place_of.Statement.{statement}
 use Rattle.chains.proofs.place_of.Tie as tie

@@ -1,13 +1,11 @@
 -- `step::step` meets its contract: each command's edit, told by its letter.
-use mathlib.Core.Bool.{true, false}
 use mathlib.Core.Path.{sym, _∙_}
 use native.Mathlib.Omega.{arith}
-use Rattle.asked.proofs.Handed.{handed-three}
-use Rattle.redraw.specs.Calls.{addWire, deleteAt, rotateAt, mirrorAt}
 use Rattle.script.proofs.Labels.{label-inside}
-use Rattle.step.specs.Steps.{noTally, does}
+use Rattle.step.specs.Steps.{does}
 use Rattle.step.proofs.Choosing.{line-placed}
-use Rattle.step.proofs.Lawfulness.{by-command, plain-as, counted-as}
+use Rattle.step.proofs.Lawfulness.{by-command, plain-as}
+use Rattle.step.proofs.Threes.{horizontal, vertical, delete, turn, mirror, by-three}
 use borrow.Author.Needs.{needs}
 use Rattle.step.proofs.step.Statement.{statement}
 use Rattle.step.proofs.step.Tie as tie
@@ -23,28 +21,16 @@ part-place-start c =
     label-inside (r .before .before .before .args .line .now) (sym (r .read-line .ensures) ∙ c .before .kind .given .1)
 
 returns : tie.Need-returns
-unfolding does
 returns c =
-    let a = c .before .before in
-    let e = a .before .before in
-    let k = e .before .known-told .given in
-    let v = e .before .before .y .given in
+    let e = c .before .before .before .before in
     let r = e .before .before .before .before in
-    let s = r .before .before .before in
-    by-command (s .pre .1) (s .args .line .now) (sym (r .read-line .ensures) ∙ v .1)
-    (plain-as (e .add-wire-on .ensures ∙ handed-three (λ p q n. addWire (s .args .d) false p q n noTally) _ _ _ (record { sfits = k .0 .1 }) (record { sfits = k .1 .0 .1 }) (record { sfits = k .1 .1 .0 .1 })) (a .tell .ensures))
+    by-three (r .before .before .before .pre .1) _ horizontal (r .read-line .ensures) (e .before .before .y .given .1) (e .before .known-told .given) (e .add-wire-on .ensures) (c .before .before .tell .ensures)
 
 returns-2 : tie.Need-returns-2
-unfolding does
 returns-2 c =
-    let a = c .before .before in
-    let e = a .before .before in
-    let k = e .before .known-told2 .given in
-    let v = e .before .before .x .given in
+    let e = c .before .before .before .before in
     let r = e .before .before .before .before in
-    let s = r .before .before .before in
-    by-command (s .pre .1) (s .args .line .now) (sym (r .read-line .ensures) ∙ v .1)
-    (plain-as (e .add-wire-on2 .ensures ∙ handed-three (λ p q n. addWire (s .args .d) true p q n noTally) _ _ _ (record { sfits = k .0 .1 }) (record { sfits = k .1 .0 .1 }) (record { sfits = k .1 .1 .0 .1 })) (a .tell2 .ensures))
+    by-three (r .before .before .before .pre .1) _ vertical (r .read-line .ensures) (e .before .before .x .given .1) (e .before .known-told2 .given) (e .add-wire-on2 .ensures) (c .before .before .tell2 .ensures)
 
 returns-3 : tie.Need-returns-3
 unfolding does
@@ -59,40 +45,22 @@ returns-3 c =
     (plain-as (e .place .ensures ∙ line-placed _ _ _ _ _ (v .0 .1 .1 .1 .1 .0) (s .args .line .now) (record { sfits = k .0 .1 }) (record { sfits = k .1 .0 .1 }) (record { sfits = k .1 .1 .0 .1 }) (record { sfits = k .1 .1 .1 .0 .1 })) (a .tell3 .ensures))
 
 returns-4 : tie.Need-returns-4
-unfolding does
 returns-4 c =
-    let a = c .before .before in
-    let e = a .before .before in
-    let k = e .before .known-told4 .given in
-    let v = e .before .before .x2 .given in
+    let e = c .before .before .before .before in
     let r = e .before .before .before .before in
-    let s = r .before .before .before in
-    by-command (s .pre .1) (s .args .line .now) (sym (r .read-line .ensures) ∙ v .1)
-    (plain-as (e .delete-on .ensures ∙ handed-three (λ p q n. deleteAt (s .args .d) p q n noTally) _ _ _ (record { sfits = k .0 .1 }) (record { sfits = k .1 .0 .1 }) (record { sfits = k .1 .1 .0 .1 })) (a .tell4 .ensures))
+    by-three (r .before .before .before .pre .1) _ delete (r .read-line .ensures) (e .before .before .x2 .given .1) (e .before .known-told4 .given) (e .delete-on .ensures) (c .before .before .tell4 .ensures)
 
 returns-5 : tie.Need-returns-5
-unfolding does
 returns-5 c =
-    let a = c .before .before in
-    let e = a .before .before in
-    let k = e .before .known-told5 .given in
-    let v = e .before .before .x3 .given in
+    let e = c .before .before .before .before in
     let r = e .before .before .before .before in
-    let s = r .before .before .before in
-    by-command (s .pre .1) (s .args .line .now) (sym (r .read-line .ensures) ∙ v .1)
-    (counted-as (e .rotate-on .ensures ∙ handed-three (λ p q n. rotateAt (s .args .d) p q n noTally) _ _ _ (record { sfits = k .0 .1 }) (record { sfits = k .1 .0 .1 }) (record { sfits = k .1 .1 .0 .1 })) (a .tell-counts .ensures))
+    by-three (r .before .before .before .pre .1) _ turn (r .read-line .ensures) (e .before .before .x3 .given .1) (e .before .known-told5 .given) (e .rotate-on .ensures) (c .before .before .tell-counts .ensures)
 
 returns-6 : tie.Need-returns-6
-unfolding does
 returns-6 c =
-    let a = c .before .before in
-    let e = a .before .before in
-    let k = e .before .known-told6 .given in
-    let v = e .before .before .x4 .given in
+    let e = c .before .before .before .before in
     let r = e .before .before .before .before in
-    let s = r .before .before .before in
-    by-command (s .pre .1) (s .args .line .now) (sym (r .read-line .ensures) ∙ v .1)
-    (counted-as (e .mirror-on .ensures ∙ handed-three (λ p q n. mirrorAt (s .args .d) p q n noTally) _ _ _ (record { sfits = k .0 .1 }) (record { sfits = k .1 .0 .1 }) (record { sfits = k .1 .1 .0 .1 })) (a .tell-counts2 .ensures))
+    by-three (r .before .before .before .pre .1) _ mirror (r .read-line .ensures) (e .before .before .x4 .given .1) (e .before .known-told6 .given) (e .mirror-on .ensures) (c .before .before .tell-counts2 .ensures)
 
 returns-7 : tie.Need-returns-7
 unfolding does

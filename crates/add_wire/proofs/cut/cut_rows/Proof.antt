@@ -7,7 +7,7 @@ use lib.ListN.{length, take, drop}
 use Rattle.lists.specs.Lists.{gather}
 use Rattle.lists.proofs.Tables.{long, holds-push, holds-push-two}
 use Rattle.add_wire.specs.Marks.{cutAcross}
-use Rattle.add_wire.proofs.Crossing.{across-cut, across-whole}
+use Rattle.add_wire.proofs.Crossed.{across-cut, across-whole}
 use Rattle.add_wire.proofs.Adding.{Adding, add-start, add-next, add-over, add-end, adds-full, adds-room}
 use native.Mathlib.Omega.{arith}
 use Rattle.add_wire.proofs.cut.cut_rows.Statement.{statement}

@@ -1,5 +1,5 @@
 -- Of another direction, then the crossing, then the mark.
-use Rattle.add_wire.proofs.Crossing.{crossed-in-line, crossed-marked, crossed-missed, crossed-low}
+use Rattle.add_wire.proofs.Crossed.{crossed-in-line, crossed-marked, crossed-missed, crossed-low}
 use borrow.Author.Needs.{needs}
 use native.Mathlib.Omega.{arith}
 use Rattle.add_wire.proofs.cut.is_crossed.Statement.{statement}

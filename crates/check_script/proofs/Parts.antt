@@ -1,0 +1,98 @@
+-- Each part of a row, read, and what goes on behind it. `PART-by`: what the reader finds is such a part, so what holds of going on behind
+-- every such part, and of none, holds of what is read. `PART-is`: the reader finds every such part, up to the line's end or a space.
+use mathlib.Core.Path.{_≡_, refl, sym, ap, subst, _∙_}
+use mathlib.Core.Bool.{Bool, true, false, cond}
+use mathlib.Core.List.{List, [], _∷_, _++_, append-nil}
+use Prim.Native.Nat.{ℕ, _+_, _-_, _≤_}
+use Prim.Native.Char.{Char}
+use native.Mathlib.Omega.{arith}
+use borrow.Author.Tests.{le-leb}
+use lib.ListN.{length}
+use lib.IntN.{ℤ}
+use Rattle.lists.proofs.Tests.{choose, leb-reads, eqb-reads}
+use Rattle.script.specs.Grammar.{byte, _␣_, Label, none, some}
+use Rattle.script.specs.Reading.{Found, found, missing, then}
+use Rattle.script.proofs.Parts.{Stops, end, space, behind-by, field-by, field-is}
+use Rattle.check_script.specs.declared.Said.{Said}
+use Rattle.check_script.specs.declared.Said.the-variants.{Unreadable}
+use Rattle.orientation.specs.declared.RotMirror.{RotMirror}
+use Rattle.check_script.specs.Grammar.{IsHeld, holds, IsSign, Direction, horizontal, vertical}
+use Rattle.check_script.specs.Reading.{fitted, heldOf, signOf, turnOf, ending, letterOf, directionOf, labelled}
+
+by-test : {B : Type 0} (P : B → Type 0) (b : Bool) {x y : B} → (b ≡ true → P x) → P y → P (cond b x y)
+by-test P true is not = is refl
+by-test P false is not = not
+
+module _ {B : Type 0} (P : B → Type 0) {e : B} (not : P e) (s : List ℕ) where
+  pub held-by : {A : Type 0} {low high : ℕ} {f : ℤ → A} {g : A → List ℕ → B}
+      → ((t rest : List ℕ) (a : A) → IsHeld low high f t a → s ≡ byte " " ∷ (t ++ rest) → P (g a rest)) → P (then (heldOf low high f s) g e)
+  unfolding heldOf
+  held-by {A} {low} {high} {f} {g} is =
+      field-by (λ r. P (then (then r (λ z t. cond (fitted low high z) (found (f z) t) missing) missing) g e)) s
+      (λ t rest z n q. by-test (λ r. P (then r g e)) (fitted low high z) (λ h. is t rest (f z) (holds n h) q) not) not
+
+  pub direction-by : {g : Bool → List ℕ → B} → ((d : Char) (v : Bool) (rest : List ℕ) → Direction d v → s ≡ byte " " ∷ byte d ∷ rest → P (g v rest)) → P (then (directionOf s) g e)
+  unfolding directionOf letterOf
+  direction-by {g} is =
+      let C : Found Bool → Type 0 = λ r. P (then r g e) in
+      behind-by C (byte " ") s
+      (λ u q. behind-by C (byte "h") u (λ r p. is "h" false r horizontal (q ∙ ap (λ l. byte " " ∷ l) p))
+      (behind-by C (byte "v") u (λ r p. is "v" true r vertical (q ∙ ap (λ l. byte " " ∷ l) p)) not)) not
+
+module _ {B : Type 0} (P : B → Type 0) {e : B} (not : P e) (s : List ℕ) where
+  pub turn-by : {g : RotMirror → List ℕ → B}
+      → ((A B C D rest : List ℕ) (o : RotMirror) → IsSign A (o .0) → IsSign B (o .1) → IsSign C (o .2) → IsSign D (o .3) → s ≡ [] ␣ A ␣ B ␣ C ␣ D ++ rest → P (g o rest))
+      → P (then (turnOf s) g e)
+  unfolding turnOf
+  turn-by {g} is =
+      let R : Found RotMirror → Type 0 = λ r. P (then r g e) in
+      held-by R not s (λ A s1 a ga e1.
+      held-by R not s1 (λ B s2 b gb e2.
+      held-by R not s2 (λ C s3 c gc e3.
+      held-by R not s3 (λ D s4 d gd e4. is A B C D s4 (a, b, c, d) ga gb gc gd (rw (e1, e2, e3, e4))))))
+
+module _ (P : Said → Type 0) (not : P Unreadable) where
+  pub ending-by : (rest : List ℕ) {k : Said} → (rest ≡ [] → P k) → P (ending k rest)
+  ending-by [] is = is refl
+  ending-by (b ∷ rest) is = not
+
+  pub label-by : (n : ℕ) {f : ℕ → Said} (rest : List ℕ) → length rest ≤ n
+      → ((label : List ℕ) (at : ℕ) → Label rest label → length label ≤ 16 → at + length label ≡ n → P (f at)) → P (labelled n f rest)
+  unfolding labelled
+  label-by n [] le is = is [] n none (omega arith) (omega arith)
+  label-by n (b ∷ []) le is = not
+  label-by n (b ∷ c ∷ l) le is =
+      choose (eqb-reads b (byte " ")) P
+      (λ q. choose (leb-reads (length (c ∷ l)) 16) P (λ few. is (c ∷ l) (n - length (c ∷ l)) (subst (λ x. Label (x ∷ c ∷ l) (c ∷ l)) (sym q) some) few (omega arith)) (λ m. not))
+      (λ m. not)
+
+-- ---- every part is found
+
+module _ {A : Type 0} {low high : ℕ} {f : ℤ → A} where
+  pub held-is : {t rest : List ℕ} {a : A} → Stops rest → IsHeld low high f t a → heldOf low high f (byte " " ∷ (t ++ rest)) ≡ found a rest
+  unfolding heldOf
+  held-is stops (holds n q) = rw (field-is stops n, q)
+
+  -- at the line's end
+  pub held-last : {t : List ℕ} {a : A} → IsHeld low high f t a → heldOf low high f (byte " " ∷ t) ≡ found a []
+  held-last {t} h = ap (λ l. heldOf low high f (byte " " ∷ l)) (sym (append-nil t)) ∙ held-is end h
+
+pub direction-is : {d : Char} {v : Bool} (rest : List ℕ) → Direction d v → directionOf (byte " " ∷ byte d ∷ rest) ≡ found v rest
+unfolding directionOf letterOf
+direction-is rest horizontal = refl
+direction-is rest vertical = refl
+
+module _ {A B C D rest : List ℕ} {a b c d : ℤ} where
+  pub turn-is : IsSign A a → IsSign B b → IsSign C c → IsSign D d → Stops rest → turnOf ([] ␣ A ␣ B ␣ C ␣ D ++ rest) ≡ found (a, b, c, d) rest
+  unfolding turnOf
+  turn-is ga gb gc gd stops =
+      rw (held-is (space {s = B ␣ C ␣ D ++ rest}) ga, held-is (space {s = C ␣ D ++ rest}) gb, held-is (space {s = D ++ rest}) gc, held-is stops gd)
+
+pub label-stops : {rest label : List ℕ} → Label rest label → Stops rest
+label-stops none = end
+label-stops some = space
+
+pub label-is : (n : ℕ) (f : ℕ → Said) {rest label : List ℕ} {at : ℕ} → Label rest label → length label ≤ 16 → at + length label ≡ n → labelled n f rest ≡ f at
+unfolding labelled
+label-is n f none few e = ap f (omega arith)
+label-is n f some few e = rw (le-leb _ _ few) (ap f (omega arith))
