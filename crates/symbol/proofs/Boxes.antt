@@ -1,24 +1,22 @@
 -- The laws of boxes: touching is sharing a point, and goes both ways; a position lies in its own box; a mirror leaves a contact's box.
 use mathlib.Core.Path.{_≡_, sym, _∙_}
-use Prim.Native.Nat.{ℕ, zero, suc, _+_, _-_, _≤_, min, max}
+use Prim.Native.Nat.{ℕ, zero, suc, _≤_, min, max}
 use native.Mathlib.Omega.{arith}
-use mathlib.Core.Bool.{Bool, _&&_, _||_, cond}
-use mathlib.Core.Logic.{⊎-elim}
-use lib.Dec.{T, leb, leb→le}
-use lib.IntN.{ℤ, pos, negsuc, _+ℤ_}
-use lib.Signed.{leZ}
+use mathlib.Core.Bool.{Bool, _&&_, cond}
+use lib.Dec.{T, leb}
+use lib.IntN.{pos, negsuc}
 use Rattle.lists.specs.Lists.{all}
-use Rattle.lists.proofs.Tests.{Reads, reads-as, and-reads, or-reads, test, holds, passes, same-test, leb-reads}
+use Rattle.lists.proofs.Tests.{Reads, reads-as, and-reads, test, holds, passes, same-test, leb-reads}
 use Rattle.orientation.specs.Orientations.{known, mirrorOf}
 use Rattle.orientation.specs.declared.RotMirror.{RotMirror}
 use Rattle.orientation.proofs.Eight.{of-eight, test-eight}
 use Rattle.orientation.proofs.Turns.{is-known, mirror-known}
-use Rattle.edge.specs.Coordinates.{coordOf, biased, insideOf}
-use Rattle.edge.proofs.Whole.{added, pos-sub, neg-sub-suc}
+use Rattle.edge.specs.Coordinates.{insideOf}
 use Rattle.symbol.specs.Symbols.{applied, lowAt, highAt, boxOf, boundsAt, touchesOf, boundsFor, refusalOf, aabbOf}
 use Rattle.symbol.specs.Boxes.{Shares}
 use Rattle.symbol.specs.declared.Point.{Point}
 use Rattle.symbol.specs.declared.Bounds.{Bounds}
+use Rattle.symbol.proofs.Sides.{put, astride, spans}
 
 -- ---- the tests, read
 pub shares-reads : (a b : Bounds) → Reads (Shares a b) (touchesOf a b)
@@ -75,36 +73,7 @@ common-touches a b p s t =
     let k = holds (within-reads p b) t in
     passes (shares-reads a b) (record { x = omega arith; x′ = omega arith; y = omega arith; y′ = omega arith })
 
--- ---- a coordinate of a component's point, which lies z from the position's
-abbrev put : ℕ → ℤ → ℕ
-put x z = biased (coordOf x +ℤ z)
-
-put-pos : (x n : ℕ) → put x (pos n) ≡ x + n - 0
-put-pos x n = added x n 0 (pos n) (pos-sub n)
-
-put-neg : (x n : ℕ) → put x (negsuc n) ≡ x + 0 - suc n
-put-neg x n = added x 0 (suc n) (negsuc n) (neg-sub-suc n)
-
-put-below : (x : ℕ) (z : ℤ) → T (leZ z (pos 0)) → put x z ≤ x
-put-below x (pos n) t = let h = leb→le n 0 t in let e = put-pos x n in omega arith
-put-below x (negsuc n) t = let e = put-neg x n in omega arith
-
-put-above : (x : ℕ) (z : ℤ) → T (leZ (pos 0) z) → x ≤ put x z
-put-above x (pos n) t = let e = put-pos x n in omega arith
-put-above x (negsuc n) t = absurd t
-
--- one of z and w is at most 0 and the other at least 0
-abbrev astride : ℤ → ℤ → Bool
-astride z w = (leZ z (pos 0) && leZ (pos 0) w) || (leZ w (pos 0) && leZ (pos 0) z)
-
-spans : (x : ℕ) (z w : ℤ) → T (astride z w) → (min (put x z) (put x w) ≤ x) × (x ≤ max (put x z) (put x w))
-spans x z w t = ⊎-elim (λ h. go z w h) (λ h. let r = go w z h in (omega arith, omega arith)) (holds (or-reads (both z w) (both w z)) t)
-  where
-    both : (z w : ℤ) → Reads (T (leZ z (pos 0)) × T (leZ (pos 0) w)) (leZ z (pos 0) && leZ (pos 0) w)
-    both z w = and-reads (test (leZ z (pos 0))) (test (leZ (pos 0) w))
-
-    go : (z w : ℤ) → T (leZ z (pos 0)) × T (leZ (pos 0) w) → (min (put x z) (put x w) ≤ x) × (x ≤ max (put x z) (put x w))
-    go z w h = let l = put-below x z (h .0) in let k = put-above x w (h .1) in (omega arith, omega arith)
+-- ---- a position lies in its own box
 
 -- the corners of a symbol lie on both sides of its position
 corners-astride : ℕ → RotMirror → Bool
@@ -116,7 +85,6 @@ all-astride zero = test-eight (corners-astride 0) tt
 all-astride (suc zero) = test-eight (corners-astride 1) tt
 all-astride (suc (suc k)) = test-eight (corners-astride 2) tt
 
--- ---- a position lies in its own box
 pub own-box : (k : ℕ) (o : RotMirror) (x y : ℕ) → T (known o) → T (within (record { x = x; y = y }) (boundsAt k o x y))
 unfolding corners-astride
 own-box k o x y t =

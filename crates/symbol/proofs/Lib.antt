@@ -2,4 +2,5 @@ pub mod Rows
 pub mod Tables
 pub mod Symbols
 pub mod Exact
+mod Sides
 pub mod Boxes
