@@ -5,3 +5,4 @@ pub mod Emptiness
 pub mod Telling
 pub mod Kept
 pub mod Lawfulness
+pub mod Fitting
