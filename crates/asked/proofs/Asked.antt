@@ -2,8 +2,8 @@
 use Prim.Native.Nat.{ℕ}
 use Rattle.lists.proofs.Tests.{both}
 use mathlib.Core.Bool.{Bool, true, false, _&&_, not}
-use mathlib.Core.Path.{_≡_, refl, sym, ap, _∙_}
-use borrow.Author.Tests.{eq-eqb, ne-eqb}
+use mathlib.Core.Path.{_≡_, sym, ap, _∙_}
+use borrow.Author.Tests.{not-true, not-false, eq-eqb, ne-eqb}
 use lib.Dec.{eqb}
 use lib.IntN.{ℤ}
 use lib.Signed.{leZ}
@@ -20,25 +20,17 @@ use Rattle.asked.specs.declared.AskedPointer.{AskedPointer}
 use Rattle.asked.specs.Asked.{noWire, askedWire, noPart, askedPart, noPointer, askedPointer}
 use Rattle.asked.proofs.Ranges.{Tells}
 
-not-true : {b : Bool} → not b ≡ true → b ≡ false
-not-true {b = true} e = sym e
-not-true {b = false} e = refl
-
-not-false : {b : Bool} → not b ≡ false → b ≡ true
-not-false {b = true} e = refl
-not-false {b = false} e = sym e
-
 module _ (v : Bool) (l s e : ℤ) {a b c : Found} (p : Tells (ranged 6000 l) (biased l) a) (q : Tells (ranged 6000 s) (biased s) b) (r : Tells (ranged 6000 e) (biased e) c) where
   tested : (a .inside && (b .inside && c .inside)) ≡ (ranged 6000 l && (ranged 6000 s && ranged 6000 e))
   tested = λ i. p .inside-is i && (q .inside-is i && r .inside-is i)
 
   pub far-wire : not (a .inside && (b .inside && c .inside)) ≡ true → noWire 1 ≡ askedWire v l s e
   unfolding askedWire
-  far-wire t = rw (sym tested ∙ not-true t)
+  far-wire t = rw (sym tested ∙ not-true _ t)
 
   module _ (t : not (a .inside && (b .inside && c .inside)) ≡ false) where
     near : (ranged 6000 l && (ranged 6000 s && ranged 6000 e)) ≡ true
-    near = sym tested ∙ not-false t
+    near = sym tested ∙ not-false _ t
 
     pub backward-wire : leZ s e ≡ false → noWire 2 ≡ askedWire v l s e
     unfolding askedWire
@@ -54,22 +46,22 @@ module _ (v : Bool) (l s e : ℤ) {a b c : Found} (p : Tells (ranged 6000 l) (bi
 module _ (k : ℕ) (o : RotMirror) (x y : ℤ) (l : Label) {j : Bool} (w : j ≡ knownSymbol k o) where
   pub unknown-part : not j ≡ true → noPart 4 ≡ askedPart k o x y l
   unfolding askedPart
-  unknown-part t = rw (sym w ∙ not-true t)
+  unknown-part t = rw (sym w ∙ not-true _ t)
 
   module _ (t : not j ≡ false) {a b : Found} (p : Tells (ranged 5800 x) (biased x) a) (q : Tells (ranged 5800 y) (biased y) b) where
     sort : knownSymbol k o ≡ true
-    sort = sym w ∙ not-false t
+    sort = sym w ∙ not-false _ t
 
     placed : (a .inside && b .inside) ≡ (ranged 5800 x && ranged 5800 y)
     placed = λ i. p .inside-is i && q .inside-is i
 
     pub far-part : not (a .inside && b .inside) ≡ true → noPart 1 ≡ askedPart k o x y l
     unfolding askedPart
-    far-part u = rw (sort, sym placed ∙ not-true u)
+    far-part u = rw (sort, sym placed ∙ not-true _ u)
 
     module _ (u : not (a .inside && b .inside) ≡ false) {h : Held} (e : h ≡ heldLabel l) where
       in-place : (ranged 5800 x && ranged 5800 y) ≡ true
-      in-place = sym placed ∙ not-false u
+      in-place = sym placed ∙ not-false _ u
 
       reply : h .reply ≡ heldLabel l .reply
       reply = λ i. e i .reply
@@ -90,19 +82,19 @@ module _ (x y n : ℤ) {a b c : Found} (p : Tells (ranged 6000 x) (biased x) a) 
 
   pub far-pointer : not (a .inside && b .inside) ≡ true → noPointer 1 ≡ askedPointer x y n
   unfolding askedPointer
-  far-pointer t = rw (sym pointed ∙ not-true t)
+  far-pointer t = rw (sym pointed ∙ not-true _ t)
 
   module _ (t : not (a .inside && b .inside) ≡ false) where
     in-reach : (ranged 6000 x && ranged 6000 y) ≡ true
-    in-reach = sym pointed ∙ not-false t
+    in-reach = sym pointed ∙ not-false _ t
 
     pub sizeless-pointer : not (c .inside) ≡ true → noPointer 3 ≡ askedPointer x y n
     unfolding askedPointer
-    sizeless-pointer u = rw (in-reach, sym (r .inside-is) ∙ not-true u)
+    sizeless-pointer u = rw (in-reach, sym (r .inside-is) ∙ not-true _ u)
 
     pub asked-pointer : not (c .inside) ≡ false → _≡_ {A = AskedPointer} (record { reply = 0; point = record { x = a .at; y = b .at }; size = c .at }) (askedPointer x y n)
     unfolding askedPointer
     asked-pointer u =
         let s = both (ranged 6000 x) (ranged 6000 y) in-reach in
-        let z : eqb (sizedReply (sizeOf n)) 0 ≡ true = sym (r .inside-is) ∙ not-false u in
+        let z : eqb (sizedReply (sizeOf n)) 0 ≡ true = sym (r .inside-is) ∙ not-false _ u in
         rw (in-reach, z) (λ i. record { reply = 0; point = record { x = p .number (s .0) i; y = q .number (s .1) i }; size = r .number z i })

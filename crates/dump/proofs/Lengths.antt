@@ -15,12 +15,8 @@ use Rattle.lists.proofs.Tests.{decide, ltb-reads}
 use Rattle.edge.specs.Coordinates.{coordOf}
 use Rattle.edge.proofs.Whole.{sub-pos, sub-neg, mag-sub}
 use Rattle.label.specs.Labels.{takeWhile, labelPart}
-use Rattle.text.specs.Text.{decimalOf, signedOf}
+use Rattle.text.specs.Text.{signedOf}
 use Rattle.text.proofs.Decimals.{length-decimal}
-
--- a number of 32 bits has at most 10 digits
-pub length-word : (n : ℕ) → n < 4294967296 → length (decimalOf n) ≤ 10
-length-word n h = length-decimal 9 n (omega arith)
 
 -- the coordinate of a row's number of 16 bits, -6000 to 59535, has at most 5 bytes
 pub length-place : (n : ℕ) → n < 65536 → length (signedOf (coordOf n)) ≤ 5

@@ -1,5 +1,7 @@
 pub mod Noting
+pub mod Passed
+pub mod Params
+pub mod Locals
+pub mod Form
+pub mod Rest
 pub mod Thin
-pub mod Four
-pub mod Five
-pub mod Six

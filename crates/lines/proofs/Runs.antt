@@ -52,6 +52,12 @@ module _ {S : Type 0} (step : S → List ℕ → S) where
   chunks-are (ran x held) [] = refl
   chunks-are (ran x held) (s ∷ ss) = chunks-are (run step x held s) ss ∙ sym (run-append x held s (joined ss))
 
+  -- and one chunk more
+  pub chunks-more : (r : Ran S) (ss : List (List ℕ)) (s : List ℕ) → chunks step r (ss ++ (s ∷ [])) ≡ next step (chunks step r ss) s
+  unfolding chunks
+  chunks-more r [] s = refl
+  chunks-more r (t ∷ ss) s = chunks-more (next step r t) ss s
+
   -- ---- the whole input, by a step that does not tell a line from its first 81 bytes
 
   module _ (same : (x : S) (l : List ℕ) → step x (take 81 l) ≡ step x l) where

@@ -5,7 +5,7 @@ use Prim.Native.Nat.{ℕ, _+_, _<_}
 use native.Mathlib.Omega.{arith}
 use lib.ListN.{length, length-append}
 use Rattle.text.specs.Text.{decimalOf}
-use Rattle.text.proofs.Decimals.{decimal-told}
+use Rattle.text.proofs.Decimals.{tail-of, decimal-told}
 use Rattle.netlist.specs.Listing.{netWord, pinWord, relay, switch}
 
 -- ---- lengths
@@ -27,9 +27,6 @@ unfolding switch
 length-switch l x a b = simp length-append (omega arith)
 
 -- ---- what lines tell
-
-tail-of : {a b : ℕ} {s t : List ℕ} → a ∷ s ≡ b ∷ t → s ≡ t
-tail-of e = cc
 
 front : (l s t : List ℕ) → l ++ s ≡ l ++ t → s ≡ t
 front [] s t e = e

@@ -1,18 +1,9 @@
 // What the program prints, in the form of `oracle rows`: an answer, the tally, rows.
-use edge::coordinate;
-use label::label_part;
+use dump::put_rows;
 use libc::STDOUT_FILENO;
-use orientation::Number;
 use redraw::Edited;
-use sheet::Component;
-use sheet::Components;
 use sheet::Drawing;
-use sheet::Joint;
-use sheet::Joints;
 use sheet::Tally;
-use sheet::Wire;
-use sheet::Wires;
-use text::put_signed;
 
 pub(crate) fn put(text: &[u8]) {
     io::write_all(STDOUT_FILENO, text);
@@ -26,26 +17,9 @@ pub(crate) fn put_front(text: &[u8], n: usize) {
 }
 
 // A space and a number.
-fn put_number(n: i32) {
-    let mut digits = [0u8; 11];
-    let k = put_signed(&mut digits, 0, n);
-    put(b" ");
-    put_front(&digits, k);
-}
-
-// A space and a number that has no sign.
 pub(crate) fn put_count(n: u32) {
     put(b" ");
     io::print_decimal(STDOUT_FILENO, n as u64);
-}
-
-// A word, three numbers, and the end of the line.
-fn put_three(word: &[u8], a: i32, b: i32, c: i32) {
-    put(word);
-    put_number(a);
-    put_number(b);
-    put_number(c);
-    put(b"\n");
 }
 
 pub(crate) fn put_tally(t: Tally) {
@@ -57,83 +31,8 @@ pub(crate) fn put_tally(t: Tally) {
     put(b"\n");
 }
 
-// ---- rows
-
-fn put_wire(w: Wire) {
-    let line = coordinate(w.line);
-    let start = coordinate(w.start);
-    let end = coordinate(w.end);
-    if w.vertical {
-        put_three(b"W v", line, start, end);
-    } else {
-        put_three(b"W h", line, start, end);
-    }
-}
-
-fn put_joint(j: Joint) {
-    put_three(b"J", coordinate(j.x), coordinate(j.y), j.count as i32);
-}
-
-fn put_component(c: Component) {
-    put(b"C");
-    put_count(c.kind as u32);
-    let o = c.rot_mirror;
-    match orientation::number_of(o) {
-        Number::At(n) => put_count(n as u32),
-        Number::Unknown => put(b" *"),
-    }
-    put_number(coordinate(c.x));
-    put_number(coordinate(c.y));
-    put(b" ");
-    let label = c.label;
-    put(label_part(&label));
-    put(b"\n");
-}
-
-fn put_wires(ws: Wires) {
-    let mut i = 0;
-    while i < 512 {
-        if i < ws.count {
-            put_wire(ws.rows[i]);
-        }
-        i += 1;
-    }
-}
-
-fn put_joints(js: Joints) {
-    let mut i = 0;
-    while i < 1408 {
-        if i < js.count {
-            put_joint(js.rows[i]);
-        }
-        i += 1;
-    }
-}
-
-fn put_components(cs: Components) {
-    let mut i = 0;
-    while i < 128 {
-        if i < cs.count {
-            put_component(cs.rows[i]);
-        }
-        i += 1;
-    }
-}
-
-// All rows in use, but not those of a large drawing.
-fn put_rows(d: Drawing) {
-    let ws = d.wires;
-    let js = d.joints;
-    let cs = d.components;
-    if js.count < 100 {
-        put_wires(ws);
-        put_joints(js);
-        put_components(cs);
-    }
-}
-
-// `A <reply>`, for r and m followed by hit and lost, and the tally.
-pub(crate) fn put_answer(e: Edited, hits: bool) {
+// `A <reply>`, for r and m followed by hit and lost.
+fn put_reply(e: Edited, hits: bool) {
     put(b"A");
     put_count(e.reply as u32);
     if hits {
@@ -141,21 +40,37 @@ pub(crate) fn put_answer(e: Edited, hits: bool) {
         put_count(e.lost);
     }
     put(b"\n");
-    let t = e.tally;
+}
+
+// The tally and all rows in use; of a large drawing the tally alone, and of one that is not lawful.
+fn put_drawing(d: Drawing, t: Tally) {
+    let js = d.joints;
+    if js.count < 100 {
+        let k = lawful::check(d);
+        if k.rule == 0 {
+            let mut out = io::large_buffer();
+            let n = put_rows(&mut out, 0, t, d);
+            put_front(&out, n);
+            return;
+        }
+    }
     put_tally(t);
+    put(b".\n");
 }
 
 // The answer and all rows.
 pub(crate) fn put_edited(e: Edited, hits: bool) {
-    put_answer(e, hits);
+    put_reply(e, hits);
+    let t = e.tally;
     let d = e.drawing;
-    put_rows(d);
-    put(b".\n");
+    put_drawing(d, t);
 }
 
 // A call's name, and its answer without rows.
 pub(crate) fn put_told(call: &[u8], e: Edited) {
     put(call);
     put(b" ");
-    put_answer(e, true);
+    put_reply(e, true);
+    let t = e.tally;
+    put_tally(t);
 }

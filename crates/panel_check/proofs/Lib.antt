@@ -1,5 +1,4 @@
 -- Laws that the proofs of functions use, and examples of what is printed.
-pub mod Lengths
 pub mod Standing
 pub mod Going
 pub mod Reading

@@ -14,9 +14,9 @@ use Rattle.lines.specs.Chunks.{hold}
 use Rattle.lines.specs.Runs.{Ran, ran, run}
 use Rattle.lines.proofs.Runs.{run-end}
 use Rattle.step.specs.Steps.{After}
+use Rattle.step.specs.Redrawing.{redrawn, Done}
 use Rattle.panel_list.specs.declared.answers.Taken.{Taken}
-use Rattle.panel_list.specs.declared.answers.Held.{Held}
-use Rattle.panel_list.specs.Printing.{after, andThen, redrawn, Takes, Done}
+use Rattle.panel_list.specs.Printing.{after, andThen, Takes}
 
 -- the drawing goes its way whatever was printed
 abbrev drawingOf : Ran After → Ran Drawing

@@ -1,19 +1,17 @@
--- For the loop that takes the lines of a chunk: `start`, `on-line`, and the three ways out, `full`, `on-more` and `at-end`.
-use mathlib.Core.Path.{_≡_, refl, sym, ap, subst, _∙_}
+-- For the loop that takes the lines of a chunk: `start`, `on-line`, `on-more`, and the two ways out, `full` and `at-end`.
+use mathlib.Core.Path.{_≡_, refl, _∙_}
 use mathlib.Core.List.{List, []}
 use Prim.Native.Nat.{ℕ, _+_, _≤_, _<_}
 use native.Mathlib.Omega.{arith}
-use lib.ListN.{length, take, drop}
+use lib.ListN.{length, take}
 use Rattle.sheet.specs.declared.Drawing.{Drawing}
 use Rattle.sheet.specs.Rules.{Lawful}
 use Rattle.lines.specs.declared.Cut.{Cut}
 use Rattle.lines.specs.declared.Cut.the-variants.{Line, More}
 use Rattle.lines.specs.Chunks.{Next, Within}
-use Rattle.lines.proofs.Running.{Running, Done, start as run-start, on-line as run-line, on-more as run-more}
+use Rattle.lines.proofs.Running.{Running, start as run-start, on-line as run-line, on-more as run-more}
 use Rattle.lines.proofs.Runs.{run-end}
 use Rattle.step.specs.declared.Stepped.{Stepped}
-use Rattle.step.specs.Steps.{After}
-use Rattle.panel_list.specs.declared.answers.Taken.{Taken}
 use Rattle.panel_list.specs.Printing.{after, andThen, Prints, Takes}
 
 module _ (chunk held₀ : List ℕ) (begun : ℕ) (d₀ : Drawing) where
@@ -47,14 +45,13 @@ module _ (chunk held₀ : List ℕ) (begun : ℕ) (d₀ : Drawing) where
           let w : Within at (length chunk) (Line k next) = rw e at n .within in
           record { running = run-line andThen chunk held₀ begun (after d₀ []) (g .running) n e (p .told); lawful = p .lawful; fits = p .fits; first = λ z. absurd (omega (arith, w .1)) }
 
-      pub on-more : {k : ℕ} → a ≡ More k → Takes d₀ chunk held₀ begun (record { drawing = d; at = length chunk; count = k; used = used }) held′ out
-      on-more {k} e =
+      -- no line ends in what is left of the chunk: it is all taken
+      pub on-more : {k : ℕ} → a ≡ More k → at < length chunk → Going held′ (length chunk) k d used out
+      on-more {k} e h =
           let done = run-more andThen chunk held₀ begun (after d₀ []) (g .running) n e in
           record {
-            left = run-end andThen (after d (take used out)) (take k held′) chunk (length chunk) (omega arith) ∙ done .whole;
+            running = record { left = run-end andThen (after d (take used out)) (take k held′) chunk (length chunk) (omega arith) ∙ done .whole; inside = omega arith; few = done .few; long = done .long };
             lawful = g .lawful;
-            inside = omega arith;
-            more = λ h. h;
-            few = done .few;
             fits = g .fits;
+            first = λ z. absurd (omega arith);
           }

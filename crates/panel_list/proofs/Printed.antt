@@ -1,5 +1,5 @@
 -- A line's answer in the part of the buffer behind the bytes used.
-use mathlib.Core.Path.{_≡_, refl, sym, ap, _∙_}
+use mathlib.Core.Path.{_≡_, sym, ap, _∙_}
 use mathlib.Core.List.{List, _++_, append-assoc}
 use Prim.Native.Nat.{ℕ, _+_, _-_, _≤_}
 use native.Mathlib.Omega.{arith}
@@ -8,24 +8,15 @@ use lib.Seq.{take-all, length-take-le, take-append-add, take-at}
 use Rattle.sheet.specs.declared.Drawing.{Drawing}
 use Rattle.sheet.specs.Rules.{Lawful}
 use Rattle.step.specs.declared.Stepped.{Stepped}
-use Rattle.step.specs.Steps.{After, Answers, stepOf}
-use Rattle.panel_list.specs.Printing.{after, andThen, Prints}
-
--- what is printed fits where it stands
-pub answer-fits : {a : After} {old new : List ℕ} {r : Stepped} → Answers a old new r → length new ≡ length old → r .length ≤ length old
-answer-fits {a} {old} {new} {r} w e = omega (
-  arith,
-  w .length,
-  ap length (w .bytes),
-  length-append (a .printed) (drop (r .length) old),
-  length-drop (r .length) old,
-)
+use Rattle.step.specs.Steps.{Answers, stepOf}
+use Rattle.step.proofs.Fitting.{answer-fits}
+use Rattle.panel_list.specs.Printing.{after, Prints}
 
 -- as long as the part of the buffer behind an index, as it is lent
 pub length-take-all : (out : List ℕ) (used : ℕ) → length (take (length out - used) (drop used out)) ≡ length out - used
 length-take-all out used = ap length (take-all (length out - used) (drop used out) (omega (arith, length-drop used out))) ∙ length-drop used out
 
--- and stands behind the bytes used
+-- what is printed stands behind the bytes used
 behind : (front bs old rest : List ℕ) (n : ℕ) → n ≡ length bs → take (length front + n) (front ++ ((bs ++ drop n old) ++ rest)) ≡ front ++ bs
 behind front bs old rest n e =
     take-append-add front ((bs ++ drop n old) ++ rest) n

@@ -1,6 +1,6 @@
 -- `whole`: what the lines of chunks print, one after the other, and the last line at the end, is what the script prints, wherever
 -- the input is cut into chunks.
-use mathlib.Core.Path.{_≡_, refl, sym, ap, _∙_}
+use mathlib.Core.Path.{_≡_, sym, ap, _∙_}
 use mathlib.Core.List.{List, [], _∷_, _++_, append-assoc, append-nil}
 use Prim.Native.Nat.{ℕ}
 use lib.ListN.{take}

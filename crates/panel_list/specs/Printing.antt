@@ -9,8 +9,8 @@ use Rattle.sheet.specs.Rules.{Lawful}
 use Rattle.lines.specs.Runs.{ran, run, chunks}
 use Rattle.step.specs.declared.Stepped.{Stepped}
 use Rattle.step.specs.Steps.{After, stepOf}
+use Rattle.step.specs.Redrawing.{redrawn}
 use Rattle.panel_list.specs.declared.answers.Taken.{Taken}
-use Rattle.panel_list.specs.declared.answers.Held.{Held}
 
 abbrev pub after : Drawing → List ℕ → After
 after d printed = record { drawing = d; printed = printed }
@@ -22,10 +22,6 @@ start = after (drawn emptySheet) []
 -- a line more: what it prints stands behind what was printed
 abbrev pub andThen : After → List ℕ → After
 andThen a line = after (stepOf (a .drawing) line .drawing) (a .printed ++ stepOf (a .drawing) line .printed)
-
--- the same for the drawing alone
-abbrev pub redrawn : Drawing → List ℕ → Drawing
-redrawn d line = stepOf d line .drawing
 
 -- one line's print stands behind the first `used` bytes of out: now there are r .length, and so they are in out′
 pub record Prints (d : Drawing) (line : List ℕ) (used : ℕ) (out : List ℕ) (r : Stepped) (out′ : List ℕ) : Type 0 where
@@ -42,12 +38,6 @@ pub record Takes (d : Drawing) (chunk held : List ℕ) (count : ℕ) (r : Taken)
   pub more : 0 < length chunk → 0 < r .at
   pub few : r .count ≤ 81
   pub fits : r .used ≤ length out′
-
--- The lines of a whole chunk were taken.
-pub record Done (d : Drawing) (chunk held : List ℕ) (count : ℕ) (r : Held) (held′ : List ℕ) : Type 0 where
-  pub whole : ran (r .drawing) (take (r .count) held′) ≡ run redrawn d (take count held) chunk
-  pub lawful : Lawful (r .drawing)
-  pub few : r .count ≤ 81
 
 -- The drawing and the first `count` bytes held are those of some chunks, read from the empty drawing on.
 pub record Read (d : Drawing) (held : List ℕ) (count : ℕ) : Type 0 where

@@ -17,12 +17,6 @@ pub struct Taken {
     pub used: usize,
 }
 
-// The drawing, and how many bytes of a line that goes on are held.
-pub struct Held {
-    pub drawing: Drawing,
-    pub count: usize,
-}
-
 // What a line prints, behind the bytes used; the answer's length is how many are used then.
 fn print(drawing: Drawing, line: &[u8], out: &mut [u8], used: usize) -> Stepped
     requires { ⌜ Lawful drawing ⌝ ∗ ⌜ used + 8192 ≤ length (now out) ⌝ }
@@ -63,12 +57,8 @@ pub fn take_lines(d: Drawing, chunk: &[u8], held: &mut [u8], begun: usize, out: 
                 at = next;
             }
             Cut::More { count: n } => {
-                return Taken {
-                    drawing,
-                    at: chunk.len(),
-                    count: n,
-                    used,
-                };
+                count = n;
+                at = chunk.len();
             }
         }
     }

@@ -4,12 +4,13 @@ mod answers;
 ghost use Prim.Native.Nat.{_≤_};
 ghost use lib.ListN.{length};
 ghost use Rattle.sheet.specs.Rules.{Lawful};
-ghost use Rattle.panel_list.specs.Printing.{Done, Read};
-use answers::Held;
+ghost use Rattle.step.specs.Redrawing.{Done};
+ghost use Rattle.panel_list.specs.Printing.{Read};
 use answers::take_lines;
 use libc::STDIN_FILENO;
 use libc::STDOUT_FILENO;
 use sheet::Drawing;
+use step::Held;
 use step::empty_drawing;
 use step::step;
 

@@ -12,16 +12,13 @@ use Rattle.text.specs.Text.{Put}
 use Rattle.text.proofs.Puts.{put-fits}
 use Rattle.step.specs.declared.Stepped.{Stepped}
 use Rattle.step.specs.Steps.{After, Answers, stepOf}
+use Rattle.step.proofs.Fitting.{answer-fits}
 use Rattle.dump.specs.Rows.{Puts}
 use Rattle.panel_rows.specs.Printing.{asksList, behind, rowsStep}
 
--- the answer is within the buffer
-pub within : {a : After} {old new : List ℕ} {r : Stepped} → Answers a old new r → length new ≡ length old → r .length ≤ length old
-within {a} {old} {new} {r} e k = omega (arith, e .length, ap length (e .bytes), length-append (a .printed) (drop (r .length) old), length-drop (r .length) old)
-
 module _ (a : After) (old : List ℕ) (k : ℕ) {part : List ℕ} {s : Stepped} (room : k ≤ length old) (e : Answers a (take k old) part s) (same : length part ≡ length (take k old)) where
   inside : s .length ≤ length (take k old)
-  inside = within e same
+  inside = answer-fits e same
 
   -- the whole buffer, behind the answer as it was
   whole : part ++ drop k old ≡ a .printed ++ drop (s .length) old

@@ -2,18 +2,16 @@
 use mathlib.Core.Path.{_≡_}
 use mathlib.Core.Bool.{Bool, true, false, cond}
 use mathlib.Core.List.{List, [], _∷_, _++_}
-use Prim.Native.Nat.{ℕ, _≤_}
-use lib.ListN.{take}
+use Prim.Native.Nat.{ℕ}
 use Rattle.sheet.specs.declared.Drawing.{Drawing}
 use Rattle.sheet.specs.Drawings.{listsOf, tallyOf}
 use Rattle.sheet.specs.Rules.{Lawful}
 use Rattle.script.specs.declared.Command.{Command}
 use Rattle.script.specs.declared.Command.the-variants.{Horizontal, Vertical, Place, Delete, Turn, Mirror, Nets, Unreadable}
 use Rattle.script.specs.Reading.{commandOf}
-use Rattle.lines.specs.Runs.{ran, run}
 use Rattle.step.specs.Steps.{After, stepOf}
+use Rattle.step.specs.Redrawing.{redrawn}
 use Rattle.dump.specs.Rows.{rowsOf}
-use Rattle.panel_rows.specs.declared.Held.{Held}
 
 -- whether the line asks for the list
 abbrev pub asksList : Command → Bool
@@ -37,19 +35,7 @@ rowsStep d line = record {
   printed = stepOf d line .printed ++ behind (asksList (commandOf line)) (stepOf d line .drawing);
 }
 
--- ---- a chunk of the input
-
--- a line more, for the drawing
-abbrev pub redrawn : Drawing → List ℕ → Drawing
-redrawn d line = stepOf d line .drawing
-
 -- a line was taken: the drawing r
 pub record Redrawn (d : Drawing) (line : List ℕ) (r : Drawing) : Type 0 where
   pub is : r ≡ redrawn d line
   pub lawful : Lawful r
-
--- the lines of a whole chunk were taken, behind the bytes held
-pub record Done (d : Drawing) (chunk held : List ℕ) (count : ℕ) (r : Held) (held′ : List ℕ) : Type 0 where
-  pub whole : ran (r .drawing) (take (r .count) held′) ≡ run redrawn d (take count held) chunk
-  pub lawful : Lawful (r .drawing)
-  pub few : r .count ≤ 81

@@ -5,20 +5,16 @@ mod rows;
 ghost use Prim.Native.Nat.{_≤_};
 ghost use lib.ListN.{length};
 ghost use Rattle.sheet.specs.Rules.{Lawful};
-ghost use Rattle.panel_rows.specs.Printing.{Redrawn, Done};
+ghost use Rattle.step.specs.Redrawing.{Done};
+ghost use Rattle.panel_rows.specs.Printing.{Redrawn};
 use libc::STDIN_FILENO;
 use libc::STDOUT_FILENO;
 use lines::Cut;
 use lines::next_line;
 use rows::rows_step;
 use sheet::Drawing;
+use step::Held;
 use step::empty_drawing;
-
-// The drawing, and how many bytes of a line that goes on are held.
-pub struct Held {
-    pub drawing: Drawing,
-    pub count: usize,
-}
 
 // A line, written as soon as it is done.
 fn answer(drawing: Drawing, line: &[u8], out: &mut [u8]) -> Drawing

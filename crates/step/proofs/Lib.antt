@@ -6,3 +6,4 @@ pub mod Telling
 pub mod Kept
 pub mod Lawfulness
 mod Threes
+pub mod Fitting

@@ -1,26 +1,17 @@
 -- What is put in front of a buffer of 8,192 bytes is what a step answers.
 use mathlib.Core.Path.{_≡_, refl, sym, ap, _∙_}
 use mathlib.Core.List.{List, _++_}
-use Prim.Native.Nat.{ℕ, _+_, _≤_, _<_}
+use Prim.Native.Nat.{ℕ, _+_, _≤_}
 use native.Mathlib.Omega.{arith}
 use lib.ListN.{length, drop}
 use lib.Seq.{sets-eq}
 use borrow.Author.Tests.{le-leb}
 use Rattle.sheet.specs.declared.Drawing.{Drawing}
-use Rattle.text.specs.Text.{Put, decimalOf}
+use Rattle.text.specs.Text.{Put}
 use Rattle.text.proofs.Puts.{put-whole}
-use Rattle.text.proofs.Decimals.{length-decimal}
 use Rattle.netlist.specs.declared.Listed.{Listed}
 use Rattle.netlist.specs.Answers.{answerOf, bufferOf}
 use Rattle.step.specs.Steps.{Answers}
-
--- ---- how long
-
--- a number of 32 bits has at most 10 digits
-pub length-number : (n : ℕ) → n < 4294967296 → length (decimalOf n) ≤ 10
-length-number n h = length-decimal 9 n (omega arith)
-
--- ---- the buffer afterwards
 
 pub told : {d : Drawing} {bs old new : List ℕ} {n : ℕ} → Put old 0 bs new n → n ≤ length old
     → Answers (record { drawing = d; printed = bs }) old new (record { drawing = d; length = n })

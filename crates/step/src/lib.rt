@@ -39,6 +39,12 @@ pub struct Stepped {
     pub length: usize,
 }
 
+// The drawing, and how many bytes of a line that goes on are held.
+pub struct Held {
+    pub drawing: Drawing,
+    pub count: usize,
+}
+
 // No line prints the tally.
 const NO_TALLY: Tally = Tally {
     wires: 0,

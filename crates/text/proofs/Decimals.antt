@@ -53,6 +53,10 @@ length-decimal (suc k) n h = ⊎-elim
     (λ ge. omega (arith, length-more n (omega (arith, ge)), length-decimal k (n / 10) (omega (arith, pow-suc 10 (suc k)))))
     (decide (ltb-reads n 10))
 
+-- a number of 32 bits has at most 10 digits
+pub length-number : (n : ℕ) → n < 4294967296 → length (decimalOf n) ≤ 10
+length-number n h = length-decimal 9 n (omega arith)
+
 -- ---- what the digits tell
 
 -- the number that a row of digits spells, behind a
@@ -90,7 +94,7 @@ spelt (suc k) n = go (ltb n 10) (spelt k (n / 10))
 head-of : {a b : ℕ} {s t : List ℕ} → a ∷ s ≡ b ∷ t → a ≡ b
 head-of e = cc
 
-tail-of : {a b : ℕ} {s t : List ℕ} → a ∷ s ≡ b ∷ t → s ≡ t
+pub tail-of : {a b : ℕ} {s t : List ℕ} → a ∷ s ≡ b ∷ t → s ≡ t
 tail-of e = cc
 
 -- a byte below the digits ends a row of digits

@@ -51,7 +51,7 @@ use Rattle.redraw.proofs.Edited.Laws as Ed′
 use Rattle.schematic.specs.Calls.{checked}
 use Rattle.lent.specs.Noting.{noted}
 use Rattle.lent.proofs.Noting.{tv}
-use Rattle.lent.proofs.Thin.{Passed, a-drawing, a-bool, a-int}
+use Rattle.lent.proofs.Passed.{Passed, a-drawing, a-bool, a-int}
 use Rattle.lent.proofs.add_wire as g
 use Rattle.lent.proofs.add_wire.Symbol as g-def
 use Rattle.lent.proofs.add_wire.Symbol.{name as #g}

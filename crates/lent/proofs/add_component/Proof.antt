@@ -1,5 +1,6 @@
 -- By the one proof of the lent form, from that `schematic::add_component` meets its contract.
 use mathlib.Core.Path.{_≡_, refl}
+use mathlib.Core.List.{[], _∷_}
 use mir.Syntax.{w8, w32}
 use contract.Running.{givenOf, tables, tablesOf}
 use denote.Triple.Spec.{tripleOf}
@@ -15,8 +16,8 @@ use Rattle.schematic.proofs.add_component as g
 use Rattle.schematic.proofs.add_component.Symbol as g-def
 use Rattle.schematic.proofs.add_component.Symbol.{name as #g}
 use Rattle.schematic.proofs.add_component.Met as g-thm
-use Rattle.lent.proofs.Thin.{a-drawing, a-struct, a-uint, a-int}
-use Rattle.lent.proofs.Six.{meets-six}
+use Rattle.lent.proofs.Passed.{a-drawing, a-struct, a-uint, a-int}
+use Rattle.lent.proofs.Thin.{meets-thin}
 use Rattle.lent.proofs.add_component.Key.{name as #f}
 use Rattle.lent.proofs.add_component as f
 use Rattle.lent.proofs.add_component.Statement as stated
@@ -27,5 +28,5 @@ unfolding code.routine tablesOf
 add-component-spec 𝓤 H 𝓜 𝓖 𝓡 =
     entered 𝓤 H (tripleOf 𝓤 H (𝓖 .A) f.signature (f.spec 𝓤 H (𝓖 .A) (𝓜 .mem) (𝓡 .run)))
     (tables 𝓤 H 𝓜 𝓡 code.env .C) (tables 𝓤 H 𝓜 𝓡 code.env .Λ) #f code.function (code.unfolded 𝓤 H 𝓜 𝓡)
-    (meets-six a-drawing (a-uint w8) (a-struct O.the-type O′.the-laws O′.the-plain (λ _. tt) (λ _ _. refl)) (a-int w32) (a-int w32) (a-struct L.the-type L′.the-laws L′.the-plain (λ _. tt) (λ _ _. refl)) 𝓤 H (𝓖 .A) (λ d k o x y l h (r : Edited). r ≡ checked d h (addComponent d k o x y l h)) (givenOf 𝓤 H 𝓜 𝓖) (tablesOf 𝓤 H 𝓜 (tables 𝓤 H 𝓜 𝓡 code.env)) #g
+    (meets-thin (a-drawing ∷ a-uint w8 ∷ a-struct O.the-type O′.the-laws O′.the-plain (λ _. tt) (λ _ _. refl) ∷ a-int w32 ∷ a-int w32 ∷ a-struct L.the-type L′.the-laws L′.the-plain (λ _. tt) (λ _ _. refl) ∷ []) 𝓤 H (𝓖 .A) (λ d k o x y l h (r : Edited). r ≡ checked d h (addComponent d k o x y l h)) (givenOf 𝓤 H 𝓜 𝓖) (tablesOf 𝓤 H 𝓜 (tables 𝓤 H 𝓜 𝓡 code.env)) #g
     (cited 𝓤 H (tripleOf 𝓤 H (𝓖 .A) g.signature (g.spec 𝓤 H (𝓖 .A) (𝓜 .mem) (𝓡 .run))) 𝓜 𝓡 code.env #g g-def.routine code.calls-schematic·add-component (g-thm.met 𝓤 H 𝓜 𝓖 𝓡)))

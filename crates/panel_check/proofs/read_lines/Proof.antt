@@ -1,8 +1,7 @@
 -- `read_lines` meets its contract: the run and the bytes held are those of the chunks read so far.
-use mathlib.Core.Path.{_≡_, refl, sym, _∙_}
+use mathlib.Core.Path.{_≡_, refl, _∙_}
 use native.Mathlib.Omega.{arith}
 use lib.ListN.{length}
-use lib.Seq.{length-take-le}
 use Rattle.panel_check.specs.Printing.{Read}
 use Rattle.panel_check.proofs.Reading.{nothing, more}
 use borrow.Author.Needs.{needs}

@@ -2,7 +2,7 @@
 use mathlib.Core.Path.{sym}
 use native.Mathlib.Omega.{arith}
 use lib.Seq.{length-take-le}
-use Rattle.panel_list.proofs.Printed.{answer-fits}
+use Rattle.step.proofs.Fitting.{answer-fits}
 use borrow.Author.Needs.{needs}
 use Rattle.panel_list.proofs.finish.Statement.{statement}
 use Rattle.panel_list.proofs.finish.Tie as tie

@@ -1,8 +1,7 @@
 -- `panel_list::read_lines` meets its contract: the drawing and the bytes held are those of the chunks read so far.
-use mathlib.Core.Path.{_≡_, refl, sym, _∙_}
+use mathlib.Core.Path.{_≡_, refl, _∙_}
 use native.Mathlib.Omega.{arith}
 use lib.ListN.{length}
-use lib.Seq.{length-take-le}
 use Rattle.panel_list.specs.Printing.{Read}
 use Rattle.panel_list.proofs.Reading.{none, more}
 use borrow.Author.Needs.{needs}

@@ -3,7 +3,7 @@ use mathlib.Core.Path.{sym}
 use native.Mathlib.Omega.{arith}
 use lib.Seq.{length-take-le}
 use Rattle.panel_rows.specs.Printing.{rowsStep}
-use Rattle.panel_rows.proofs.Fitted.{within}
+use Rattle.step.proofs.Fitting.{answer-fits}
 use borrow.Author.Needs.{needs}
 use Rattle.panel_rows.proofs.answer.Statement.{statement}
 use Rattle.panel_rows.proofs.answer.Tie as tie
@@ -14,12 +14,12 @@ rows-step-requires c κs = search needs
 slice-reshare-prefix-write-all : tie.Need-slice-reshare-prefix-write-all
 slice-reshare-prefix-write-all c =
     let p = c .before .before .rows-step in
-    omega (arith, within (p .ensures .0) (p .kept .1 .1 .0), p .kept .1 .1 .0)
+    omega (arith, answer-fits (p .ensures .0) (p .kept .1 .1 .0), p .kept .1 .1 .0)
 
 slice-aggregate-write-all : tie.Need-slice-aggregate-write-all
 slice-aggregate-write-all c =
     let p = c .before .before .before .rows-step in
-    sym (length-take-le _ _ (omega (arith, within (p .ensures .0) (p .kept .1 .1 .0), p .kept .1 .1 .0)))
+    sym (length-take-le _ _ (omega (arith, answer-fits (p .ensures .0) (p .kept .1 .1 .0), p .kept .1 .1 .0)))
 
 write-all-requires : tie.Need-write-all-requires
 write-all-requires c κs = search needs

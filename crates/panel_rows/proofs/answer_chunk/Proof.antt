@@ -6,7 +6,7 @@ use lib.ListN.{length}
 use lib.Seq.{length-take-le}
 use Rattle.sheet.specs.Rules.{Lawful}
 use Rattle.lines.proofs.Running.{Running, start, at-end, on-line, on-more, line-there, line-less}
-use Rattle.panel_rows.specs.Printing.{redrawn}
+use Rattle.step.specs.Redrawing.{redrawn}
 use borrow.Author.Needs.{needs}
 use Rattle.panel_rows.proofs.answer_chunk.Statement.{statement}
 use Rattle.panel_rows.proofs.answer_chunk.Tie as tie

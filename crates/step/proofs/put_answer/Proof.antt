@@ -1,8 +1,8 @@
 -- `step::put_answer` meets its contract: three runs of bytes, one behind the other.
 use native.Mathlib.Omega.{arith}
+use Rattle.text.proofs.Decimals.{length-number}
 use Rattle.text.proofs.Puts.{put-then}
 use Rattle.step.specs.Steps.{answered}
-use Rattle.step.proofs.Telling.{length-number}
 use borrow.Author.Needs.{needs}
 use Rattle.step.proofs.put_answer.Statement.{statement}
 use Rattle.step.proofs.put_answer.Tie as tie

@@ -1,8 +1,8 @@
 -- `step::put_counted` meets its contract: seven runs of bytes, one behind the other.
 use native.Mathlib.Omega.{arith}
+use Rattle.text.proofs.Decimals.{length-number}
 use Rattle.text.proofs.Puts.{put-then}
 use Rattle.step.specs.Steps.{counted}
-use Rattle.step.proofs.Telling.{length-number}
 use borrow.Author.Needs.{needs}
 use Rattle.step.proofs.put_counted.Statement.{statement}
 use Rattle.step.proofs.put_counted.Tie as tie

@@ -7,10 +7,11 @@ use Rattle.sheet.proofs.Owned.{owned}
 use Rattle.text.specs.Text.{decimalOf}
 use Rattle.text.proofs.Puts.{put-then, put-as}
 use Rattle.netlist.specs.Listing.{listOf}
+use Rattle.text.proofs.Decimals.{length-number}
 use Rattle.netlist.proofs.Lengths.{list-room}
 use Rattle.script.specs.Grammar.{bytes}
 use Rattle.step.specs.Steps.{listed}
-use Rattle.step.proofs.Telling.{length-number, list-put, told}
+use Rattle.step.proofs.Telling.{list-put, told}
 use borrow.Author.Needs.{needs}
 use Rattle.step.proofs.tell_list.Statement.{statement}
 use Rattle.step.proofs.tell_list.Tie as tie

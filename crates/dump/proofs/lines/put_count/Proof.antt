@@ -2,7 +2,7 @@
 use native.Mathlib.Omega.{arith}
 use Rattle.dump.proofs.Runs.{puts-byte, puts-then, puts-short}
 use Rattle.dump.specs.Rows.{countWord}
-use Rattle.dump.proofs.Lengths.{length-word}
+use Rattle.text.proofs.Decimals.{length-number}
 use borrow.Author.Needs.{needs}
 use Rattle.dump.proofs.lines.put_count.Statement.{statement}
 use Rattle.dump.proofs.lines.put_count.Tie as tie
@@ -13,7 +13,7 @@ put-byte-requires c κs = search needs
 put-decimal-requires : tie.Need-put-decimal-requires
 put-decimal-requires c κs =
     let a = c .before .before .before .before .before .before in
-    omega (arith, length-word (a .args .n) (a .fits .n .fits))
+    omega (arith, length-number (a .args .n) (a .fits .n .fits))
 
 same-length : tie.Need-same-length
 same-length c = search needs
@@ -22,7 +22,7 @@ returns : tie.Need-returns
 unfolding countWord
 returns c =
     let a = c .before .before .before .before .before .before .before .before .before in
-    puts-then (puts-byte (c .before .before .before .before .before .before .put-byte .ensures)) (puts-short (length-word (a .args .n) (a .fits .n .fits)) (c .before .before .put-decimal .ensures))
+    puts-then (puts-byte (c .before .before .before .before .before .before .put-byte .ensures)) (puts-short (length-number (a .args .n) (a .fits .n .fits)) (c .before .before .put-decimal .ensures))
 
 pub put-count-spec : {M : Type 1} → statement M
 put-count-spec = tie.close (tie.spec put-byte-requires put-decimal-requires same-length returns)

@@ -2,7 +2,7 @@
 use native.Mathlib.Omega.{arith}
 use Rattle.text.proofs.Puts.{put-then}
 use Rattle.panel_check.specs.Answers.{unreadableOf}
-use Rattle.panel_check.proofs.Lengths.{length-number}
+use Rattle.text.proofs.Decimals.{length-number}
 use borrow.Author.Needs.{needs}
 use Rattle.panel_check.proofs.answers.put_unreadable.Statement.{statement}
 use Rattle.panel_check.proofs.answers.put_unreadable.Tie as tie

@@ -1,6 +1,7 @@
 -- `print` meets its contract: what the line prints stands behind the bytes used.
 use native.Mathlib.Omega.{arith}
-use Rattle.panel_list.proofs.Printed.{answer-fits, length-take-all, printed}
+use Rattle.step.proofs.Fitting.{answer-fits}
+use Rattle.panel_list.proofs.Printed.{length-take-all, printed}
 use borrow.Author.Needs.{needs}
 use Rattle.panel_list.proofs.answers.print.Statement.{statement}
 use Rattle.panel_list.proofs.answers.print.Tie as tie

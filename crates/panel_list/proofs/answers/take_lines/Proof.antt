@@ -86,27 +86,23 @@ loop-again c =
 enum-known-n-2 : tie.Need-enum-known-n-2 Inv-loop μ-loop
 enum-known-n-2 c = search needs
 
-same-length-3 : tie.Need-same-length-3 Inv-loop μ-loop
-same-length-3 c =
+loop-less-2 : tie.Need-loop-less-2 Inv-loop μ-loop
+loop-less-2 c = omega (arith, c .before .before .before .before .before .before .before .before .loop-test .taken)
+
+loop-again-2 : tie.Need-loop-again-2 Inv-loop μ-loop
+loop-again-2 c =
     let a = c .before .before .before .before .before in
-    a .next-line .kept .1 .1 .0 ∙ a .before .before .before .before .loop .inv .0 .running .long
+    let l = a .before .before .before .before in
+    (on-more _ _ _ _ (l .loop .inv .0) (a .next-line .ensures) (c .before .n2 .given .1) (a .before .before .before .loop-test .taken), l .loop .inv .1)
+
+same-length-3 : tie.Need-same-length-3 Inv-loop μ-loop
+same-length-3 c = c .before .loop .inv .0 .running .long
 
 same-length-4 : tie.Need-same-length-4 Inv-loop μ-loop
-same-length-4 c = c .before .before .before .before .before .before .before .before .before .loop .inv .1
+same-length-4 c = c .before .loop .inv .1
 
 returns-2 : tie.Need-returns-2 Inv-loop μ-loop
-returns-2 c =
-    let a = c .before .before .before .before .before in
-    on-more _ _ _ _ (a .before .before .before .before .loop .inv .0) (a .next-line .ensures) (c .before .n2 .given .1)
-
-same-length-5 : tie.Need-same-length-5 Inv-loop μ-loop
-same-length-5 c = c .before .loop .inv .0 .running .long
-
-same-length-6 : tie.Need-same-length-6 Inv-loop μ-loop
-same-length-6 c = c .before .loop .inv .1
-
-returns-3 : tie.Need-returns-3 Inv-loop μ-loop
-returns-3 c = at-end _ _ _ _ (c .before .loop .inv .0) (c .loop-test .left)
+returns-2 c = at-end _ _ _ _ (c .before .loop .inv .0) (c .loop-test .left)
 
 pub take-lines-spec : {M : Type 1} → statement M
 take-lines-spec =
@@ -127,9 +123,8 @@ take-lines-spec =
     loop-less
     loop-again
     enum-known-n-2
+    loop-less-2
+    loop-again-2
     same-length-3
     same-length-4
-    returns-2
-    same-length-5
-    same-length-6
-    returns-3)
+    returns-2)

@@ -1,7 +1,8 @@
 -- `panel_rows::rows_step` meets its contract: the answer in front of 8,192 bytes, and the rows put behind it.
 use native.Mathlib.Omega.{arith}
 use lib.ListN.{length-take}
-use Rattle.panel_rows.proofs.Fitted.{within, stepped}
+use Rattle.step.proofs.Fitting.{answer-fits}
+use Rattle.panel_rows.proofs.Fitted.{stepped}
 use borrow.Author.Needs.{needs}
 use Rattle.panel_rows.proofs.rows.rows_step.Statement.{statement}
 use Rattle.panel_rows.proofs.rows.rows_step.Tie as tie
@@ -25,7 +26,7 @@ step-requires c κs =
 put-behind-requires : tie.Need-put-behind-requires
 put-behind-requires c κs =
     let p = c .before .before .before .before .step in
-    (p .ensures .1, omega (arith, within (p .ensures .0) (p .kept .1 .1 .0), length-take 8192 (c .before .before .before .before .before .before .before .before .before .args .out .now)))
+    (p .ensures .1, omega (arith, answer-fits (p .ensures .0) (p .kept .1 .1 .0), length-take 8192 (c .before .before .before .before .before .before .before .before .before .args .out .now)))
 
 same-length : tie.Need-same-length
 same-length c = search needs
