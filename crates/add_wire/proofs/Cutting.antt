@@ -13,19 +13,19 @@ use Rattle.lists.specs.Lists.{_∈_, any, gather}
 use Rattle.lists.proofs.Tests.{Reads, pass, fail, decide, test, choose, ltb-reads, and-reads, compare}
 use Rattle.sheet.specs.declared.Wire.{Wire}
 use Rattle.sheet.specs.Lines.{along, across, inside}
-use Rattle.sheet.specs.Split.{splitOne, splitAt, splitAll}
-use Rattle.add_wire.specs.Marks.{upTo, fromOn, within, cutFrom}
+use Rattle.sheet.specs.Split.{upTo, fromOn, splitOne, splitAt, splitAll}
+use Rattle.add_wire.specs.Marks.{strictlyIn, cutFrom}
 
 -- strictly inside
 abbrev In : ℕ → Wire → Type 0
 In b v = (v .start < b) × (b < v .end)
 
-within-reads : (b : ℕ) (v : Wire) → Reads (In b v) (within b v)
+within-reads : (b : ℕ) (v : Wire) → Reads (In b v) (strictlyIn b v)
 within-reads b v = and-reads (ltb-reads (v .start) b) (ltb-reads b (v .end))
 
 -- one cut
 abbrev cutAt : ℕ → Wire → List Wire
-cutAt b v = cond (within b v) (upTo b v ∷ fromOn b v ∷ []) (v ∷ [])
+cutAt b v = cond (strictlyIn b v) (upTo b v ∷ fromOn b v ∷ []) (v ∷ [])
 
 cut-in : (b : ℕ) (v : Wire) → In b v → cutAt b v ≡ upTo b v ∷ fromOn b v ∷ []
 cut-in b v h = choose (within-reads b v) (λ l. l ≡ upTo b v ∷ fromOn b v ∷ []) (λ p. refl) (λ f. absurd (f h))
@@ -43,7 +43,7 @@ module _ (m : ℕ → Bool) (a k : ℕ) (v : Wire) where
   unfolding cutFrom
   skips f = step (m a) refl
     where
-      step : (b : Bool) → m a ≡ b → cond (b && within a v) (upTo a v ∷ cutFrom m (suc a) k (fromOn a v)) (cutFrom m (suc a) k v) ≡ cutFrom m (suc a) k v
+      step : (b : Bool) → m a ≡ b → cond (b && strictlyIn a v) (upTo a v ∷ cutFrom m (suc a) k (fromOn a v)) (cutFrom m (suc a) k v) ≡ cutFrom m (suc a) k v
       step false e = refl
       step true e = choose (within-reads a v) (λ l. l ≡ cutFrom m (suc a) k v) (λ p. absurd (f e p)) (λ n. refl)
 
@@ -145,7 +145,7 @@ unfolding cutFrom
 cut-as m n a zero v e = refl
 cut-as m n a (suc k) v e =
     let rest : (u : Wire) → cutFrom m (suc a) k u ≡ cutFrom n (suc a) k u = λ u. cut-as m n (suc a) k u (λ c g l. e c (omega arith) (omega arith)) in
-    λ i. cond (e a (omega arith) (omega arith) i && within a v) (upTo a v ∷ rest (fromOn a v) i) (rest v i)
+    λ i. cond (e a (omega arith) (omega arith) i && strictlyIn a v) (upTo a v ∷ rest (fromOn a v) i) (rest v i)
 
 none-cut : (a k : ℕ) (v : Wire) → cutFrom (λ c. false) a k v ≡ v ∷ []
 unfolding cutFrom

@@ -13,7 +13,7 @@ use lib.ListN.{length, getD, take, set, replicate}
 use lib.Seq.{getD-set-same, getD-set-other, getD-take, length-take-le}
 use Rattle.lists.specs.Lists.{any}
 use Rattle.lists.proofs.Tests.{decide, eqb-reads, compare}
-use Rattle.merge.specs.Chains.{Met, here, later, Chained}
+use Rattle.merge.specs.Chains.{Met, here, later, Traced}
 
 zeros : (n k : ℕ) → _≡_ {A = ℕ} (getD (replicate n 0) k 0) 0
 zeros zero k = refl
@@ -22,7 +22,7 @@ zeros (suc n) (suc k) = zeros n k
 
 -- the first i numbers of l are chained
 pub record Building (key : ℕ → ℕ) (l : List ℕ) (i : ℕ) (last before : List ℕ) : Type 0 where
-  pub chained : Chained key (take i l) last before
+  pub chained : Traced key (take i l) last before
 
 pub build-start : (key : ℕ → ℕ) (l : List ℕ) (m n : ℕ) → Building key l 0 (replicate m 0) (replicate n 0)
 build-start key l m n = record {
@@ -33,8 +33,8 @@ build-start key l m n = record {
   };
 }
 
-pub build-end : {key : ℕ → ℕ} {l last before : List ℕ} {i : ℕ} (n : ℕ) → Building key l i last before → i ≡ n → Chained key (take n l) last before
-build-end {key} {l} {last} {before} n b e = subst (λ (k : ℕ). Chained key (take k l) last before) e (b .chained)
+pub build-end : {key : ℕ → ℕ} {l last before : List ℕ} {i : ℕ} (n : ℕ) → Building key l i last before → i ≡ n → Traced key (take n l) last before
+build-end {key} {l} {last} {before} n b e = subst (λ (k : ℕ). Traced key (take k l) last before) e (b .chained)
 
 -- a link further up changes nothing of what is met from below
 met-set : {before : List ℕ} {k j : ℕ} (i v : ℕ) → ((m : ℕ) → m < i → getD before m 0 ≤ m) → Met before k j → k ≤ i → Met (set before i v) k j
@@ -61,7 +61,7 @@ build-next {key} {l} {last} {before} {i} k built e hl hk hb = record {
   };
 }
   where
-    c : Chained key (take i l) last before
+    c : Traced key (take i l) last before
     c = built .chained
 
     new : List ℕ
@@ -124,7 +124,7 @@ place-any c (x ∷ cs) (suc j) h e = step (eqb c x) (place-any c cs j (le-of-suc
     step true q = refl
     step false q = q
 
-pub sought-start : {key : ℕ → ℕ} {cs last before : List ℕ} (c : ℕ) → Chained key cs last before → Sought c cs before (getD last (key c) 0)
+pub sought-start : {key : ℕ → ℕ} {cs last before : List ℕ} (c : ℕ) → Traced key cs last before → Sought c cs before (getD last (key c) 0)
 sought-start {key} {cs} {last} {before} c h = record {
   ahead = λ e. let t = any-place c cs e in (t .0, t .2, subst (λ (x : ℕ). Met before (getD last (key x) 0) (t .0)) (t .2) (h .met (t .0) (t .1)));
   within = h .starts (key c);
@@ -139,7 +139,7 @@ met-next here f = absurd (f refl)
 met-next (later p) f = p
 
 -- the link at k leads further down
-pub sought-falls : {key : ℕ → ℕ} {cs last before : List ℕ} {c k : ℕ} → Chained key cs last before → Sought c cs before k → 0 < k → getD before (k - 1) 0 ≤ k - 1
+pub sought-falls : {key : ℕ → ℕ} {cs last before : List ℕ} {c k : ℕ} → Traced key cs last before → Sought c cs before k → 0 < k → getD before (k - 1) 0 ≤ k - 1
 sought-falls {k = k} h s l = h .falls (k - 1) (omega (arith, s .within))
 
 pub sought-next : {c k : ℕ} {cs before : List ℕ} → Sought c cs before k → 0 < k → (getD cs (k - 1) 0 ≡ c → ⊥) → getD before (k - 1) 0 ≤ k - 1 → Sought c cs before (getD before (k - 1) 0)

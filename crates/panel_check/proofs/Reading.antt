@@ -8,14 +8,14 @@ use Rattle.sketch.specs.declared.Sketch.{Sketch}
 use Rattle.sketch.specs.Sketches.{emptySketch}
 use Rattle.lines.specs.Runs.{Ran, ran, next, chunks}
 use Rattle.panel_check.specs.declared.Held.{Held}
-use Rattle.panel_check.specs.Telling.{Told, start, after}
+use Rattle.panel_check.specs.Telling.{Told, toldNothing, toldAfter}
 use Rattle.panel_check.specs.Printing.{none, Done, Read}
 use Rattle.panel_check.proofs.Standing.{spilled-both}
 
-one-more : (r : Ran Told) (ss : List (List ℕ)) (s : List ℕ) → chunks after r (ss ++ (s ∷ [])) ≡ next after (chunks after r ss) s
+one-more : (r : Ran Told) (ss : List (List ℕ)) (s : List ℕ) → chunks toldAfter r (ss ++ (s ∷ [])) ≡ next toldAfter (chunks toldAfter r ss) s
 unfolding chunks
 one-more r [] s = refl
-one-more r (t ∷ ss) s = one-more (next after r t) ss s
+one-more r (t ∷ ss) s = one-more (next toldAfter r t) ss s
 
 pub nothing : {k : Sketch} (held out : List ℕ) → k ≡ emptySketch → Read (record { run = record { sketch = k; begun = false; lines = 0; stopped = false; used = 0 }; count = 0 }) held out
 nothing held out e = record {
@@ -32,7 +32,7 @@ more {chunk = chunk} g n = record {
   input = g .input ++ (chunk ∷ []);
   written = g .written ++ n .written;
   spilled = spilled-both (g .spilled) (n .spilled);
-  gives = one-more (ran start []) (g .input) chunk ∙ ap (λ x. next after x chunk) (g .gives) ∙ sym (n .whole (g .written));
+  gives = one-more (ran toldNothing []) (g .input) chunk ∙ ap (λ x. next toldAfter x chunk) (g .gives) ∙ sym (n .whole (g .written));
   fits = n .fits;
   few = n .few;
 }

@@ -10,7 +10,7 @@ use Rattle.sheet.specs.Rules.{Lawful}
 use Rattle.script.specs.declared.Command.{Command}
 use Rattle.script.specs.declared.Command.the-variants.{Horizontal, Vertical, Place, Delete, Turn, Mirror, Nets, Unreadable}
 use Rattle.script.specs.Reading.{commandOf}
-use Rattle.lines.specs.Runs.{ran, run}
+use Rattle.lines.specs.Runs.{ran, throughChunk}
 use Rattle.step.specs.Steps.{After, stepOf}
 use Rattle.dump.specs.Rows.{rowsOf}
 use Rattle.panel_rows.specs.declared.Held.{Held}
@@ -50,6 +50,6 @@ pub record Redrawn (d : Drawing) (line : List ℕ) (r : Drawing) : Type 0 where
 
 -- the lines of a whole chunk were taken, behind the bytes held
 pub record Done (d : Drawing) (chunk held : List ℕ) (count : ℕ) (r : Held) (held′ : List ℕ) : Type 0 where
-  pub whole : ran (r .drawing) (take (r .count) held′) ≡ run redrawn d (take count held) chunk
+  pub whole : ran (r .drawing) (take (r .count) held′) ≡ throughChunk redrawn d (take count held) chunk
   pub lawful : Lawful (r .drawing)
   pub few : r .count ≤ 81

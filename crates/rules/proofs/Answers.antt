@@ -18,7 +18,8 @@ use Rattle.sheet.specs.Points.{same, rises}
 use Rattle.sheet.specs.Joints.{place, jointsOf}
 use Rattle.sheet.specs.Parts.{padsOf, ahead}
 use Rattle.sheet.specs.Drawings.{Sheet, joints, zeroJoint, jointTable, jointRows, listsOf, marksOf}
-use Rattle.sheet.specs.Wiring.{AllFit, Room}
+use Rattle.sheet.specs.Wiring.{AllFit}
+use Rattle.sheet.proofs.Wiring.{Roomy}
 use Rattle.sheet.specs.Rules.{Rule2}
 use Rattle.sheet.proofs.Totals.{joint-room}
 use Rattle.parts.specs.Tables.{PartsFit}
@@ -58,7 +59,7 @@ module _ (d : Drawing) (w : Within d) (js : Joints) (e : js ≡ jointTable (join
   unfolding pad
   rows-are = let xs = jointsOf (marksOf (listsOf d)) in ap jointRows e ∙ take-append-seam xs (replicate (1408 - length xs) zeroJoint)
 
-  room : Room (listsOf d)
+  room : Roomy (listsOf d)
   room = record { wires = omega (arith, length-take (d .wires .count) (d .wires .rows), w .wires); parts = omega (arith, length-take (d .components .count) (d .components .rows), w .components .room) }
 
   pub joints-fit : js .count ≤ 1408

@@ -22,11 +22,11 @@ use Rattle.sheet.specs.declared.Component.{Component}
 use Rattle.sheet.specs.declared.Joint.{Joint}
 use Rattle.sheet.specs.declared.Drawing.{Drawing}
 use Rattle.sheet.specs.Lines.{ends, marks}
-use Rattle.sheet.specs.Joints.{place, number, Listed}
+use Rattle.sheet.specs.Joints.{place, number}
 use Rattle.sheet.specs.Parts.{position, PartFits}
 use Rattle.sheet.specs.Drawings.{Sheet, zeroWire, zeroComponent, zeroJoint, listsOf, jointRows, Sized}
 use Rattle.sheet.specs.Wiring.{Fits}
-use Rattle.sheet.specs.Rules.{Share, Upward, upright, up, along, endsAt, Blank, Rule1, Rule2, Rule3, Rule4, Rule5, Rule7}
+use Rattle.sheet.specs.Rules.{Rule6, Share, Upward, upright, up, along, endsAt, Blank, Rule1, Rule2, Rule3, Rule4, Rule5, Rule7}
 use Rattle.sheet.proofs.Points.{same-reads, member-reads, rises-reads, rise-chain}
 use Rattle.sheet.proofs.Lines.{inside-reads, ends-in, in-ends}
 use Rattle.sheet.proofs.JointRows.{number-in}
@@ -176,7 +176,7 @@ reads4 ws ps = reads-as (into, out) (all-reads (λ p. not-reads (or-reads (bare-
 
 -- ---- rules 6 and 7
 
-pub reads6 : (js : List Joint) (ps : List Point) → Reads (Listed js ps) (check6 js ps)
+pub reads6 : (js : List Joint) (ps : List Point) → Reads (Rule6 js ps) (check6 js ps)
 unfolding check6
 reads6 js ps = reads-as
     (λ t. record { once = t .0; all = t .1 .0; only = λ j m. t .1 .1 j m .0; right = λ j m. t .1 .1 j m .1 }, λ l. (l .once, (l .all, λ j m. (l .only j m, l .right j m))))
