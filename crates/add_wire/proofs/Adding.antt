@@ -14,7 +14,8 @@ use Rattle.sheet.specs.declared.Wires.{Wires}
 use Rattle.wires.specs.declared.Grown.{Grown}
 use Rattle.wires.specs.Tables.{Tabled, Grows}
 use Rattle.wires.proofs.Growing.{grows-room, when-room, still-full, grows-as}
-use Rattle.add_wire.specs.Marks.{Adds, upTo, fromOn, within, cutFrom}
+use Rattle.sheet.specs.Split.{upTo, fromOn}
+use Rattle.add_wire.specs.Marks.{Adds, strictlyIn, cutFrom}
 
 -- ---- Adds
 
@@ -92,22 +93,22 @@ module _ {g : Grown} {m : ℕ → Bool} {e : ℕ} {whole : List Wire} {a : ℕ} 
   further : a ≤ e → e + 1 - a ≡ suc (e + 1 - (a + 1))
   further l = omega arith
 
-  cut-here : a ≤ e → (m a && within a w) ≡ true → s .done ++ (upTo a w ∷ cutFrom m (a + 1) (e + 1 - (a + 1)) (fromOn a w)) ≡ whole
+  cut-here : a ≤ e → (m a && strictlyIn a w) ≡ true → s .done ++ (upTo a w ∷ cutFrom m (a + 1) (e + 1 - (a + 1)) (fromOn a w)) ≡ whole
   unfolding cutFrom
   cut-here l t = sym (ap (λ (k : ℕ). s .done ++ cutFrom m a k w) (further l) ∙ rw (t, add-one a)) ∙ s .rest
 
-  pub slice-cut : a ≤ e → (m a && within a w) ≡ true → out .count < 512 → Slicing g m e whole (a + 1) (fromOn a w) (record { rows = set (out .rows) (out .count) (upTo a w); count = out .count + 1 })
+  pub slice-cut : a ≤ e → (m a && strictlyIn a w) ≡ true → out .count < 512 → Slicing g m e whole (a + 1) (fromOn a w) (record { rows = set (out .rows) (out .count) (upTo a w); count = out .count + 1 })
   slice-cut l t c = record {
     done = s .done ++ (upTo a w ∷ []);
     behind = done-more (s .behind) (λ xs h. holds-push (upTo a w) h c);
     rest = append-assoc (s .done) (upTo a w ∷ []) (cutFrom m (a + 1) (e + 1 - (a + 1)) (fromOn a w)) ∙ cut-here l t;
   }
 
-  pub slice-skip : a ≤ e → (m a && within a w) ≡ false → Slicing g m e whole (a + 1) w out
+  pub slice-skip : a ≤ e → (m a && strictlyIn a w) ≡ false → Slicing g m e whole (a + 1) w out
   unfolding cutFrom
   slice-skip l t = record { done = s .done; behind = s .behind; rest = sym (ap (λ (k : ℕ). s .done ++ cutFrom m a k w) (further l) ∙ rw (t, add-one a)) ∙ s .rest }
 
-  pub slice-over : {r : Grown} → a ≤ e → (m a && within a w) ≡ true → ((l : List Wire) → 512 < length l → Grows l r) → 512 ≤ out .count → Adds whole g r
+  pub slice-over : {r : Grown} → a ≤ e → (m a && strictlyIn a w) ≡ true → ((l : List Wire) → 512 < length l → Grows l r) → 512 ≤ out .count → Adds whole g r
   slice-over l t f h = done-over (upTo a w ∷ []) (cutFrom m (a + 1) (e + 1 - (a + 1)) (fromOn a w)) (s .behind) (cut-here l t) f (omega arith)
 
   last-piece : e < a → s .done ++ (w ∷ []) ≡ whole

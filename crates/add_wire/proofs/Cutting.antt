@@ -10,18 +10,19 @@ use lib.Dec.{eqb}
 use Rattle.lists.specs.Lists.{gather}
 use Rattle.lists.proofs.Tests.{Reads, decide, choose, ltb-reads, and-reads, compare}
 use Rattle.sheet.specs.declared.Wire.{Wire}
-use Rattle.add_wire.specs.Marks.{upTo, fromOn, within, cutFrom}
+use Rattle.sheet.specs.Split.{upTo, fromOn}
+use Rattle.add_wire.specs.Marks.{strictlyIn, cutFrom}
 
 -- strictly inside
 abbrev pub In : ℕ → Wire → Type 0
 In b v = (v .start < b) × (b < v .end)
 
-within-reads : (b : ℕ) (v : Wire) → Reads (In b v) (within b v)
+within-reads : (b : ℕ) (v : Wire) → Reads (In b v) (strictlyIn b v)
 within-reads b v = and-reads (ltb-reads (v .start) b) (ltb-reads b (v .end))
 
 -- one cut
 abbrev pub cutAt : ℕ → Wire → List Wire
-cutAt b v = cond (within b v) (upTo b v ∷ fromOn b v ∷ []) (v ∷ [])
+cutAt b v = cond (strictlyIn b v) (upTo b v ∷ fromOn b v ∷ []) (v ∷ [])
 
 cut-in : (b : ℕ) (v : Wire) → In b v → cutAt b v ≡ upTo b v ∷ fromOn b v ∷ []
 cut-in b v h = choose (within-reads b v) (λ l. l ≡ upTo b v ∷ fromOn b v ∷ []) (λ p. refl) (λ f. absurd (f h))
@@ -39,7 +40,7 @@ module _ (m : ℕ → Bool) (a k : ℕ) (v : Wire) where
   unfolding cutFrom
   skips f = step (m a) refl
     where
-      step : (b : Bool) → m a ≡ b → cond (b && within a v) (upTo a v ∷ cutFrom m (suc a) k (fromOn a v)) (cutFrom m (suc a) k v) ≡ cutFrom m (suc a) k v
+      step : (b : Bool) → m a ≡ b → cond (b && strictlyIn a v) (upTo a v ∷ cutFrom m (suc a) k (fromOn a v)) (cutFrom m (suc a) k v) ≡ cutFrom m (suc a) k v
       step false e = refl
       step true e = choose (within-reads a v) (λ l. l ≡ cutFrom m (suc a) k v) (λ p. absurd (f e p)) (λ n. refl)
 

@@ -9,20 +9,20 @@ use lib.ListN.{getD, take, drop, take-append-drop, length-take}
 use lib.Seq.{take-take}
 use Rattle.symbol.specs.declared.Point.{Point}
 use Rattle.lists.specs.Lists.{_∈_, any, keep, gather, insert}
-use Rattle.lists.specs.Places.{span, insertAt}
+use Rattle.lists.specs.Places.{span}
 use Rattle.lists.proofs.Lists.{keep-in, keep-append, gather-append, length-insert}
 use Rattle.lists.proofs.Passes.{gather-as, gather-gather, gather-each}
-use Rattle.lists.proofs.Places.{insert-place, span-le}
+use Rattle.lists.proofs.Places.{insertAt, insert-place, span-le}
 use Rattle.sheet.specs.declared.Wire.{Wire}
-use Rattle.sheet.specs.Lines.{along, across, low, high, tip, tips, ends, On, on, Meets, first}
+use Rattle.sheet.specs.Lines.{along, across, low, high, tip, tips, ends, on, Meets, first}
 use Rattle.sheet.specs.Split.{splitOne, splitAt, splitAll}
-use Rattle.sheet.specs.Run.{kept, run, rest, standing, lay, addWire}
-use Rattle.sheet.proofs.Lines.{on-reads, same-dir}
+use Rattle.sheet.specs.Run.{kept, run, rest, standing, lay, layWire}
+use Rattle.sheet.proofs.Lines.{On, on-reads, same-dir}
 use Rattle.sheet.proofs.Split.{split-all-no-shorter, all-from}
 use Rattle.sheet.proofs.Rest.{kept-in}
 use Rattle.sheet.proofs.Reach.{run-reaches, within-meets}
 use Rattle.wires.specs.declared.Grown.{Grown}
-use Rattle.wires.specs.Tables.{Grows, Cut}
+use Rattle.wires.specs.Tables.{Grows, Splits}
 use Rattle.wires.proofs.Growing.{grows-as, cut-more, still-full}
 use Rattle.add_wire.specs.Marks.{Marked, Adds, cutAcross, cutFrom}
 use Rattle.add_wire.proofs.Pointed.{Aimed, split-cuts}
@@ -32,7 +32,7 @@ use Rattle.add_wire.proofs.Adding.{adds-more}
 -- ---- before the run goes in
 
 -- what is kept, split at both ends of the new wire
-pub tips-split : (n : Wire) (ws : List Wire) {a b : Point} {g h r : Grown} → Grows (kept n ws) g → Cut (a ∷ []) g h → Cut (b ∷ []) h r → a ≡ tip low n → b ≡ tip high n → Grows (rest n ws) r
+pub tips-split : (n : Wire) (ws : List Wire) {a b : Point} {g h r : Grown} → Grows (kept n ws) g → Splits (a ∷ []) g h → Splits (b ∷ []) h r → a ≡ tip low n → b ≡ tip high n → Grows (rest n ws) r
 unfolding rest
 tips-split n ws o p q e f = grows-as (λ i. splitAll (e i ∷ f i ∷ []) (kept n ws)) (cut-more p q .so (kept n ws) o)
 
@@ -42,8 +42,8 @@ unfolding rest
 rest-free n ws w m t = let s = all-from (tips n) m in kept-in n ws (s .1) .1 (within-meets (s .2 .within) t)
 
 -- with no room for the rest there is none at the end
-pub rest-over : (n : Wire) (ws : List Wire) (ps : List Point) {g : Grown} → Grows (rest n ws) g → g .full ≡ true → Grows (addWire n ws ps) g
-unfolding addWire lay
+pub rest-over : (n : Wire) (ws : List Wire) (ps : List Point) {g : Grown} → Grows (rest n ws) g → g .full ≡ true → Grows (layWire n ws ps) g
+unfolding layWire lay
 rest-over n ws ps o e = still-full _ o e (omega (arith, split-all-no-shorter (standing n (rest n ws) ps) (insert first (run n ws) (rest n ws)), length-insert first (run n ws) (rest n ws)))
 
 -- ---- wires split at many points
@@ -124,8 +124,8 @@ laid-table n r rows count ps {marks} {p} {o = o} s m e free d l z a b c =
     (adds-more (adds-more a b) c .so [] z)
 
 -- the run and the rest as the edit has them
-pub laid-edit : (n : Wire) (ws : List Wire) (ps : List Point) {r : Wire} {vs : List Wire} {o : Grown} → r ≡ run n ws → vs ≡ rest n ws → Grows (lay n r vs ps) o → Grows (addWire n ws ps) o
-unfolding addWire
+pub laid-edit : (n : Wire) (ws : List Wire) (ps : List Point) {r : Wire} {vs : List Wire} {o : Grown} → r ≡ run n ws → vs ≡ rest n ws → Grows (lay n r vs ps) o → Grows (layWire n ws ps) o
+unfolding layWire
 laid-edit n ws ps e f h = grows-as (λ i. lay n (e i) (f i) ps) h
 
 -- what laying asks of them

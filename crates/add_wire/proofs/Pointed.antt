@@ -11,8 +11,8 @@ use Rattle.symbol.specs.declared.Point.{Point}
 use Rattle.lists.specs.Lists.{_∈_, any, gather}
 use Rattle.sheet.specs.declared.Wire.{Wire}
 use Rattle.sheet.specs.Lines.{along, across, inside}
-use Rattle.sheet.specs.Split.{splitOne, splitAt, splitAll}
-use Rattle.add_wire.specs.Marks.{upTo, fromOn, within, cutFrom}
+use Rattle.sheet.specs.Split.{upTo, fromOn, splitOne, splitAt, splitAll}
+use Rattle.add_wire.specs.Marks.{strictlyIn, cutFrom}
 use Rattle.add_wire.proofs.Cutting.{In, cutAt, cuts, skips, whether, any-cut}
 
 -- only what is marked of the places to come counts
@@ -21,7 +21,7 @@ unfolding cutFrom
 cut-as m n a zero v e = refl
 cut-as m n a (suc k) v e =
     let rest : (u : Wire) → cutFrom m (suc a) k u ≡ cutFrom n (suc a) k u = λ u. cut-as m n (suc a) k u (λ c g l. e c (omega arith) (omega arith)) in
-    λ i. cond (e a (omega arith) (omega arith) i && within a v) (upTo a v ∷ rest (fromOn a v) i) (rest v i)
+    λ i. cond (e a (omega arith) (omega arith) i && strictlyIn a v) (upTo a v ∷ rest (fromOn a v) i) (rest v i)
 
 none-cut : (a k : ℕ) (v : Wire) → cutFrom (λ c. false) a k v ≡ v ∷ []
 unfolding cutFrom

@@ -28,19 +28,19 @@ run-snoc n (a ∷ ws) w = ap (λ (r : Wire). cond (meets n a) (stretch r a) r) (
     step false false r = refl
 
 -- r is the run of n among the first i rows of l
-pub record Runs (n : Wire) (l : List Wire) (i : ℕ) (r : Wire) : Type 0 where
+pub record RunSoFar (n : Wire) (l : List Wire) (i : ℕ) (r : Wire) : Type 0 where
   pub so-far : r ≡ run n (take i l)
 
-pub run-start : (n : Wire) (l : List Wire) → Runs n l 0 n
+pub run-start : (n : Wire) (l : List Wire) → RunSoFar n l 0 n
 unfolding run
 run-start n l = record { so-far = refl }
 
-module _ {n : Wire} {l : List Wire} {i : ℕ} {r : Wire} (d : Wire) (o : Runs n l i r) where
-  pub run-yes : meets n (getD l i d) ≡ true → i < length l → Runs n l (i + 1) (stretch r (getD l i d))
+module _ {n : Wire} {l : List Wire} {i : ℕ} {r : Wire} (d : Wire) (o : RunSoFar n l i r) where
+  pub run-yes : meets n (getD l i d) ≡ true → i < length l → RunSoFar n l (i + 1) (stretch r (getD l i d))
   run-yes e h = record { so-far = ap (λ (t : Wire). stretch t (getD l i d)) (o .so-far) ∙ sym (ap (run n) (take-more l i d h) ∙ run-snoc n (take i l) (getD l i d) ∙ rw e) }
 
-  pub run-no : meets n (getD l i d) ≡ false → i < length l → Runs n l (i + 1) r
+  pub run-no : meets n (getD l i d) ≡ false → i < length l → RunSoFar n l (i + 1) r
   run-no e h = record { so-far = o .so-far ∙ sym (ap (run n) (take-more l i d h) ∙ run-snoc n (take i l) (getD l i d) ∙ rw e) }
 
-pub run-end : {n : Wire} {l : List Wire} {i : ℕ} {r : Wire} (m : ℕ) → Runs n l i r → i ≡ m → r ≡ run n (take m l)
+pub run-end : {n : Wire} {l : List Wire} {i : ℕ} {r : Wire} (m : ℕ) → RunSoFar n l i r → i ≡ m → r ≡ run n (take m l)
 run-end {n} {l} m o e = o .so-far ∙ ap (λ (k : ℕ). run n (take k l)) e

@@ -1,4 +1,4 @@
--- Joints on the new wire as marks along it, and wires cut at the marks.
+-- "Cut the run at each joint still standing": joints on the new wire as marks along it, and wires cut at the marks.
 use Prim.Native.Nat.{ℕ, zero, suc, _≤_}
 use mathlib.Core.Path.{_≡_}
 use mathlib.Core.List.{List, [], _∷_, _++_}
@@ -9,7 +9,7 @@ use Rattle.symbol.specs.declared.Point.{Point}
 use Rattle.lists.specs.Lists.{any}
 use Rattle.sheet.specs.declared.Wire.{Wire}
 use Rattle.sheet.specs.Lines.{along, point, on, inside}
-use Rattle.sheet.specs.Split.{left, right}
+use Rattle.sheet.specs.Split.{upTo, fromOn, left, right}
 use Rattle.wires.specs.declared.Grown.{Grown}
 use Rattle.wires.specs.Tables.{Grows}
 
@@ -28,22 +28,14 @@ pub record Adds (vs : List Wire) (g r : Grown) : Type 0 where
 
 -- ---- the run
 
--- the part of a wire up to a place
-abbrev pub upTo : ℕ → Wire → Wire
-upTo a w = record { vertical = w .vertical; line = w .line; start = w .start; end = a }
-
--- and the part from it
-abbrev pub fromOn : ℕ → Wire → Wire
-fromOn a w = record { vertical = w .vertical; line = w .line; start = a; end = w .end }
-
 -- the place lies strictly inside the wire
-abbrev pub within : ℕ → Wire → Bool
-within a w = ltb (w .start) a && ltb a (w .end)
+abbrev pub strictlyIn : ℕ → Wire → Bool
+strictlyIn a w = ltb (w .start) a && ltb a (w .end)
 
 -- the wire, cut at each place strictly inside it that m marks, of k places from a on
 unfoldable pub cutFrom : (ℕ → Bool) → ℕ → ℕ → Wire → List Wire
 cutFrom m a zero w = w ∷ []
-cutFrom m a (suc k) w = cond (m a && within a w) (upTo a w ∷ cutFrom m (suc a) k (fromOn a w)) (cutFrom m (suc a) k w)
+cutFrom m a (suc k) w = cond (m a && strictlyIn a w) (upTo a w ∷ cutFrom m (suc a) k (fromOn a w)) (cutFrom m (suc a) k w)
 
 -- ---- wires across
 

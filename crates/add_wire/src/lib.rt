@@ -40,7 +40,7 @@ fn laid(t: Wires, run: Wire, n: Wire, pads: Points) -> Grown
 // The wire edit.
 pub fn add_wire(ws: Wires, n: Wire, pads: Points) -> Grown
     requires { ⌜ (ws .count ≤ 512) × ((pads .count ≤ 384) × (n .end ≤ 12000)) ⌝ }
-    ensures { λ r. ⌜ Grows (Run.addWire n (wireRows ws) (pointRows pads)) r ⌝ }
+    ensures { λ r. ⌜ Grows (Run.layWire n (wireRows ws) (pointRows pads)) r ⌝ }
 {
     let run = run::run_of(ws, n);
     let rest = rest::rest_of(ws, n);

@@ -9,7 +9,7 @@ use lib.Signed.{leZ}
 use mir.Syntax.{w32}
 use mir.Val.{SFits}
 use mir.Facts.{toZ-ofZ}
-use Rattle.edge.specs.Coordinates.{biased, ranged, found, placeOf, toℕ, sizedReply, sizeOf}
+use Rattle.edge.specs.Coordinates.{biased, ranged, found, biasedWithin, toℕ, sizedReply, sizeOf}
 use Rattle.edge.specs.declared.Found.{Found}
 use Rattle.edge.specs.declared.PointerSize.{PointerSize}
 use Rattle.edge.specs.declared.PointerSize.the-variants.{Is, Wrong}
@@ -21,8 +21,8 @@ pub record Tells (b : Bool) (n : ℕ) (r : Found) : Type 0 where
   pub inside-is : r .inside ≡ b
   pub number : b ≡ true → r .at ≡ n
 
-row-tells : (k : ℕ) (z : ℤ) → Tells (ranged k z) (biased z) (placeOf k z)
-unfolding placeOf
+row-tells : (k : ℕ) (z : ℤ) → Tells (ranged k z) (biased z) (biasedWithin k z)
+unfolding biasedWithin
 row-tells k z = go (ranged k z)
   where
     go : (b : Bool) → Tells b (biased z) (found b (biased z))
@@ -40,8 +40,8 @@ size-tells (pos n) = go (leb n 1000)
 
 -- z as it reaches `edge` comes out of its bits as it was
 module _ (z : ℤ) (f : SFits w32 z) {r : Found} where
-  pub in-range : (k : ℕ) → r ≡ placeOf k (bits z) → Tells (ranged k z) (biased z) r
-  in-range k e = rw (e ∙ ap (placeOf k) (toZ-ofZ {w = w32} {z = z} f)) (row-tells k z)
+  pub in-range : (k : ℕ) → r ≡ biasedWithin k (bits z) → Tells (ranged k z) (biased z) r
+  in-range k e = rw (e ∙ ap (biasedWithin k) (toZ-ofZ {w = w32} {z = z} f)) (row-tells k z)
 
   pub in-size : {s : PointerSize} → s ≡ sizeOf (bits z) → r ≡ sizeRow s → Tells (eqb (sizedReply (sizeOf z)) 0) (toℕ z) r
   in-size e q = rw (q ∙ ap sizeRow (e ∙ ap sizeOf (toZ-ofZ {w = w32} {z = z} f))) (size-tells z)

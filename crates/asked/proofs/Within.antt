@@ -19,7 +19,7 @@ use Rattle.label.specs.declared.Label.{Label}
 use Rattle.label.specs.Labels.{heldLabel}
 use Rattle.label.proofs.Accepted.{accepted-holds}
 use Rattle.sheet.specs.Parts.{PartFits}
-use Rattle.sheet.specs.Wiring.{Drawable}
+use Rattle.sheet.proofs.Wiring.{Drawable}
 use Rattle.asked.specs.declared.AskedWire.{AskedWire}
 use Rattle.asked.specs.declared.AskedPart.{AskedPart}
 use Rattle.asked.specs.declared.AskedPointer.{AskedPointer}

@@ -20,9 +20,11 @@ use Rattle.asked.specs.declared.AskedPointer.{AskedPointer}
 
 -- ---- a wire
 
+-- a wire as rows hold it: each coordinate 6,000 more
 abbrev pub wireAt : Bool → ℤ → ℤ → ℤ → Wire
 wireAt vertical line start end = record { vertical = vertical; line = biased line; start = biased start; end = biased end }
 
+-- the refusal n, with a row of zeros
 abbrev pub noWire : ℕ → AskedWire
 noWire n = record { reply = n; wire = zeroWire }
 
@@ -35,9 +37,11 @@ askedWire vertical line start end =
 
 -- ---- a component
 
+-- a component as rows hold it, its label "held in 16 bytes with zeros behind"
 abbrev pub componentAt : ℕ → RotMirror → ℤ → ℤ → Label → Component
 componentAt kind o x y label = record { kind = kind; «rot_mirror» = o; x = biased x; y = biased y; label = heldLabel label .bytes }
 
+-- the refusal n, with a row of zeros
 abbrev pub noPart : ℕ → AskedPart
 noPart n = record { reply = n; part = zeroComponent }
 
@@ -50,9 +54,11 @@ askedPart kind o x y label =
 
 -- ---- a pointer and its size
 
+-- a pointer as rows hold points
 abbrev pub pointAt : ℤ → ℤ → Point
 pointAt x y = record { x = biased x; y = biased y }
 
+-- the refusal n, with zeros
 abbrev pub noPointer : ℕ → AskedPointer
 noPointer n = record { reply = n; point = unused; size = 0 }
 

@@ -24,7 +24,7 @@ use Rattle.sheet.specs.Joints.{jointsOf}
 use Rattle.sheet.specs.Lines.{marks}
 use Rattle.sheet.specs.Merge.{merge}
 use Rattle.sheet.specs.Parts.{ahead, padsOf}
-use Rattle.sheet.specs.Run.{addWire}
+use Rattle.sheet.specs.Run.{layWire}
 use Rattle.sheet.specs.Split.{splitAt}
 use Rattle.sheet.proofs.Totals.{joints-few}
 use Rattle.wires.specs.declared.Grown.{Grown}
@@ -99,10 +99,10 @@ module _ (x y z : ℤ) (d : Drawing) {a : AskedWire} (q : a ≡ askedWire false 
   unfolding laidAnswer
   laid-refused f = rw (ne-eqb (askedWire false x y z .reply) 0 (λ h. f (wire-reply ∙ h))) refl
 
-  pub laid-rows : a .reply ≡ 0 → grownRows (addWire (a .wire) (listsOf d .wires) (padsOf (listsOf d .parts))) ≡ laidAnswer x y z d
+  pub laid-rows : a .reply ≡ 0 → grownRows (layWire (a .wire) (listsOf d .wires) (padsOf (listsOf d .parts))) ≡ laidAnswer x y z d
   unfolding laidAnswer
   laid-rows h =
-      ap (λ (b : AskedWire). grownRows (addWire (b .wire) (listsOf d .wires) (padsOf (listsOf d .parts)))) q
+      ap (λ (b : AskedWire). grownRows (layWire (b .wire) (listsOf d .wires) (padsOf (listsOf d .parts)))) q
       ∙ rw (eq-eqb (askedWire false x y z .reply) 0 (sym wire-reply ∙ h)) refl
 
 module _ (x y : ℤ) (d : Drawing) where

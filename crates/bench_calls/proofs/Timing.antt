@@ -17,12 +17,12 @@ use Rattle.netlist.specs.Answers as netlist
 use Rattle.netlist.specs.declared.LooseCount.{LooseCount}
 use Rattle.bench_calls.specs.Numbered.{editOf}
 use Rattle.bench_calls.specs.Tables.{tableAnswer}
-use Rattle.bench_calls.specs.Timed.{tallyOf, editAnswer, listAnswer, looseAnswer, answerOf, again}
+use Rattle.bench_calls.specs.Timed.{evenTally, editAnswer, listAnswer, timedLoose, timedAnswer, again}
 
 module _ (call what : ℕ) (x y z : ℤ) (d : Drawing) (last : ℕ) where
   -- ---- edits
 
-  module _ {u : Tally} {e : Edited} (p : u ≡ tallyOf last) where
+  module _ {u : Tally} {e : Edited} (p : u ≡ evenTally last) where
     pub edited-on : call ≡ 0 → e ≡ editOf what x y z d u → e .tally .joints ≡ editAnswer call what x y z d last
     unfolding editAnswer
     edited-on k q =
@@ -39,35 +39,35 @@ module _ (call what : ℕ) (x y z : ℤ) (d : Drawing) (last : ℕ) where
 
   -- ---- by the number
 
-  pub by-edit : call < 2 → editAnswer call what x y z d last ≡ answerOf call what x y z d last
-  unfolding answerOf
+  pub by-edit : call < 2 → editAnswer call what x y z d last ≡ timedAnswer call what x y z d last
+  unfolding timedAnswer
   by-edit h = rw (lt-ltb call 2 h) refl
 
-  pub by-check : 2 ≤ call → call < 4 → checkOf d .rule ≡ answerOf call what x y z d last
-  unfolding answerOf
+  pub by-check : 2 ≤ call → call < 4 → checkOf d .rule ≡ timedAnswer call what x y z d last
+  unfolding timedAnswer
   by-check a h = rw (le-ltb call 2 a, lt-ltb call 4 h) refl
 
-  pub by-list : 2 ≤ call → 4 ≤ call → call < 6 → listAnswer call d last ≡ answerOf call what x y z d last
-  unfolding answerOf
+  pub by-list : 2 ≤ call → 4 ≤ call → call < 6 → listAnswer call d last ≡ timedAnswer call what x y z d last
+  unfolding timedAnswer
   by-list a b h = rw (le-ltb call 2 a, le-ltb call 4 b, lt-ltb call 6 h) refl
 
-  pub by-loose : 2 ≤ call → 4 ≤ call → 6 ≤ call → call < 8 → looseAnswer call d ≡ answerOf call what x y z d last
-  unfolding answerOf
+  pub by-loose : 2 ≤ call → 4 ≤ call → 6 ≤ call → call < 8 → timedLoose call d ≡ timedAnswer call what x y z d last
+  unfolding timedAnswer
   by-loose a b e h = rw (le-ltb call 2 a, le-ltb call 4 b, le-ltb call 6 e, lt-ltb call 8 h) refl
 
-  pub by-table : 2 ≤ call → 4 ≤ call → 6 ≤ call → 8 ≤ call → tableAnswer call x y z d ≡ answerOf call what x y z d last
-  unfolding answerOf
+  pub by-table : 2 ≤ call → 4 ≤ call → 6 ≤ call → 8 ≤ call → tableAnswer call x y z d ≡ timedAnswer call what x y z d last
+  unfolding timedAnswer
   by-table a b e h = rw (le-ltb call 2 a, le-ltb call 4 b, le-ltb call 6 e, le-ltb call 8 h) refl
 
 -- ---- loose points
 
 module _ (call : ℕ) (d : Drawing) where
-  pub loose-lawful : call ≡ 6 → looseOf (listsOf d) ≡ looseAnswer call d
-  unfolding looseAnswer
+  pub loose-lawful : call ≡ 6 → looseOf (listsOf d) ≡ timedLoose call d
+  unfolding timedLoose
   loose-lawful k = rw (eq-eqb call 6 k) refl
 
-  pub loose-checked : (call ≡ 6 → ⊥) → netlist.looseAnswer d .count ≡ looseAnswer call d
-  unfolding looseAnswer
+  pub loose-checked : (call ≡ 6 → ⊥) → netlist.looseAnswer d .count ≡ timedLoose call d
+  unfolding timedLoose
   loose-checked f = rw (ne-eqb call 6 f) refl
 
   module _ (last : ℕ) {out : List ℕ} where

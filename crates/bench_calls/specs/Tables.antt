@@ -1,4 +1,4 @@
--- Operations on the tables of a drawing, by number; each answers how many rows come out, or a number of one of them.
+-- Operations on the tables of a drawing ("Numbers and rows"), by number; each answers how many rows come out, or a number of one of them.
 use Prim.Native.Nat.{ℕ, _%_}
 use mathlib.Core.Bool.{false, cond, not}
 use mathlib.Core.List.{List, []}
@@ -16,7 +16,7 @@ use Rattle.sheet.specs.Edits.{meetsWire, meetsPart}
 use Rattle.sheet.specs.Joints.{jointsOf}
 use Rattle.sheet.specs.Merge.{merge}
 use Rattle.sheet.specs.Parts.{ahead, padsOf}
-use Rattle.sheet.specs.Run.{addWire}
+use Rattle.sheet.specs.Run.{layWire}
 use Rattle.sheet.specs.Split.{splitAt}
 use Rattle.asked.specs.Asked.{askedWire, askedPart, askedPointer}
 use Rattle.bench_calls.specs.Numbered.{label}
@@ -49,7 +49,7 @@ unfoldable pub laidAnswer : ℤ → ℤ → ℤ → Drawing → ℕ
 laidAnswer x y z d =
     let a = askedWire false x y z in
     let s = listsOf d in
-    cond (eqb (a .reply) 0) (grownRows (addWire (a .wire) (s .wires) (padsOf (s .parts)))) 0
+    cond (eqb (a .reply) 0) (grownRows (layWire (a .wire) (s .wires) (padsOf (s .parts)))) 0
 
 -- 12 a contact put in, in row order
 unfoldable pub insertedAnswer : ℤ → ℤ → Drawing → ℕ
@@ -65,6 +65,7 @@ wholeAnswer call d =
     (cond (eqb call 14) (length (jointsOf (marksOf s)))
     (length (padsOf (s .parts))))
 
+-- the operation of a number from 8 on
 unfoldable pub tableAnswer : ℕ → ℤ → ℤ → ℤ → Drawing → ℕ
 tableAnswer call x y z d =
     cond (ltb call 11) (pointedAnswer call x y z d)

@@ -1,4 +1,4 @@
--- What a timing answers: a drawing is built by edits, and then one call is made so many times on it.
+-- What a timing answers: a drawing is built by edits ("Edits"), and then one call is made so many times on it.
 use Prim.Native.Nat.{ℕ, zero, suc, _+_, _*_, _%_}
 use mathlib.Core.Bool.{cond}
 use mathlib.Core.List.{List}
@@ -19,30 +19,33 @@ use Rattle.bench_calls.specs.Tables.{tableAnswer}
 
 -- ---- the drawing
 
-abbrev pub tallyOf : ℕ → Tally
-tallyOf n = record { wires = n; joints = n; components = n; ends = n }
+-- a lent tally, n in each of its numbers
+abbrev pub evenTally : ℕ → Tally
+evenTally n = record { wires = n; joints = n; components = n; ends = n }
 
 -- the drawing after an edit, or as it was
-abbrev pub kept : Edited → Drawing → Drawing
-kept e d = cond (eqb (e .reply) 0) (e .drawing) d
+abbrev pub editedOr : Edited → Drawing → Drawing
+editedOr e d = cond (eqb (e .reply) 0) (e .drawing) d
 
-unfoldable pub nextOf : ℕ → ℤ → ℤ → ℤ → Drawing → Drawing
-nextOf what x y z d = kept (editOf what x y z d (tallyOf 0)) d
+-- the drawing after the edit of a number
+unfoldable pub afterEdit : ℕ → ℤ → ℤ → ℤ → Drawing → Drawing
+afterEdit what x y z d = editedOr (editOf what x y z d (evenTally 0)) d
 
+-- number i of a script, 0 behind its end
 abbrev pub numberAt : List ℤ → ℕ → ℤ
 numberAt numbers i = getD numbers i (pos 0)
 
 -- the empty drawing after the first n edits: the number of each, and three numbers for each
 unfoldable pub builtBy : List ℕ → List ℤ → ℕ → Drawing
 builtBy whats numbers zero = drawn emptySheet
-builtBy whats numbers (suc n) = nextOf (getD whats n 0) (numberAt numbers (3 * n)) (numberAt numbers (3 * n + 1)) (numberAt numbers (3 * n + 2)) (builtBy whats numbers n)
+builtBy whats numbers (suc n) = afterEdit (getD whats n 0) (numberAt numbers (3 * n)) (numberAt numbers (3 * n + 1)) (numberAt numbers (3 * n + 2)) (builtBy whats numbers n)
 
 -- ---- the calls, by number; each answers one number, and is told the one before
 
 -- 0 on a drawing known to be lawful, 1 by the public call: the number of joints after the edit
 unfoldable pub editAnswer : ℕ → ℕ → ℤ → ℤ → ℤ → Drawing → ℕ → ℕ
 editAnswer call what x y z d last =
-    let t = tallyOf last in
+    let t = evenTally last in
     let e = editOf what x y z d t in
     cond (eqb call 0) (e .tally .joints) (checked d t e .tally .joints)
 
@@ -54,16 +57,16 @@ listAnswer call d last =
     cond (eqb call 4) (getD (bufferOf (listOf (listsOf d)) blank) i 0) (getD (netlistIn d blank) i 0)
 
 -- 6 of a drawing known to be lawful, 7 by the public call: the number of loose points
-unfoldable pub looseAnswer : ℕ → Drawing → ℕ
-looseAnswer call d = cond (eqb call 6) (looseOf (listsOf d)) (netlist.looseAnswer d .count)
+unfoldable pub timedLoose : ℕ → Drawing → ℕ
+timedLoose call d = cond (eqb call 6) (looseOf (listsOf d)) (netlist.looseAnswer d .count)
 
 -- 2 is the plain check and 3 the check of public calls: the first broken rule, by either; from 8 on an operation on tables
-unfoldable pub answerOf : ℕ → ℕ → ℤ → ℤ → ℤ → Drawing → ℕ → ℕ
-answerOf call what x y z d last =
+unfoldable pub timedAnswer : ℕ → ℕ → ℤ → ℤ → ℤ → Drawing → ℕ → ℕ
+timedAnswer call what x y z d last =
     cond (ltb call 2) (editAnswer call what x y z d last)
     (cond (ltb call 4) (checkOf d .rule)
     (cond (ltb call 6) (listAnswer call d last)
-    (cond (ltb call 8) (looseAnswer call d)
+    (cond (ltb call 8) (timedLoose call d)
     (tableAnswer call x y z d))))
 
 -- f so many times, from the answer a on

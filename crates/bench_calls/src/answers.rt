@@ -7,7 +7,7 @@ ghost use Rattle.sheet.specs.Rules.{Lawful};
 ghost use Rattle.schematic.specs.Calls.{checked};
 ghost use Rattle.rules.specs.Check.{checkOf};
 ghost use Rattle.bench_calls.specs.Numbered.{editOf};
-ghost use Rattle.bench_calls.specs.Timed.{tallyOf, editAnswer, listAnswer, looseAnswer, answerOf};
+ghost use Rattle.bench_calls.specs.Timed.{evenTally, editAnswer, listAnswer, timedLoose, timedAnswer};
 use crate::edits::edit_checked;
 use crate::edits::edit_on;
 use crate::tables::table_answer;
@@ -25,7 +25,7 @@ fn word(n: u8) -> u32
 }
 
 fn tally_of(last: u32) -> Tally
-    ensures { λ r. ⌜ r ≡ tallyOf last ⌝ }
+    ensures { λ r. ⌜ r ≡ evenTally last ⌝ }
 {
     Tally {
         wires: last,
@@ -79,7 +79,7 @@ fn list_answer(call: u8, d: Drawing, last: u32) -> u32
 // The number of loose points: 6 of a drawing known to be lawful, else by the public call.
 fn loose_answer(call: u8, d: Drawing) -> u32
     requires { ⌜ Lawful d ⌝ }
-    ensures { λ r. ⌜ r ≡ looseAnswer call d ⌝ }
+    ensures { λ r. ⌜ r ≡ timedLoose call d ⌝ }
 {
     if call == 6 {
         return loose_on(d);
@@ -91,7 +91,7 @@ fn loose_answer(call: u8, d: Drawing) -> u32
 // The call by its number.
 pub fn answer(call: u8, d: Drawing, what: u8, x: i32, y: i32, z: i32, last: u32) -> u32
     requires { ⌜ Lawful d ⌝ }
-    ensures { λ r. ⌜ r ≡ answerOf call what x y z d last ⌝ }
+    ensures { λ r. ⌜ r ≡ timedAnswer call what x y z d last ⌝ }
 {
     if call < 2 {
         return edit_answer(call, d, what, x, y, z, last);

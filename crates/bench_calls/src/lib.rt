@@ -8,7 +8,7 @@ ghost use lib.IntN.{pos};
 ghost use lib.ListN.{getD};
 ghost use Rattle.sheet.specs.Drawings.{drawn, emptySheet};
 ghost use Rattle.sheet.specs.Rules.{Lawful};
-ghost use Rattle.bench_calls.specs.Timed.{nextOf, builtBy, answerOf, again};
+ghost use Rattle.bench_calls.specs.Timed.{afterEdit, builtBy, timedAnswer, again};
 use crate::answers::answer;
 use crate::edits::edit_on;
 use sheet::Drawing;
@@ -32,7 +32,7 @@ fn number_at(numbers: &[i32], i: usize) -> i32
 // The drawing after an edit; one that is refused leaves it as it was.
 fn next(d: Drawing, what: u8, x: i32, y: i32, z: i32) -> Drawing
     requires { ⌜ Lawful d ⌝ }
-    ensures { λ r. ⌜ r ≡ nextOf what x y z d ⌝ }
+    ensures { λ r. ⌜ r ≡ afterEdit what x y z d ⌝ }
 {
     let t = Tally {
         wires: 0,
@@ -69,7 +69,7 @@ fn built(whats: &[u8], numbers: &[i32], count: u32) -> Drawing
 // One call so many times, each on the same drawing and with the answer before.
 fn repeated(call: u8, d: Drawing, what: u8, x: i32, y: i32, z: i32, times: u32) -> u32
     requires { ⌜ Lawful d ⌝ }
-    ensures { λ r. ⌜ r ≡ again times (answerOf call what x y z d) 0 ⌝ }
+    ensures { λ r. ⌜ r ≡ again times (timedAnswer call what x y z d) 0 ⌝ }
 {
     let mut last: u32 = 0;
     let mut k: u32 = 0;
@@ -93,7 +93,7 @@ pub extern "C" fn wuyansole_time(
     z: i32,
     times: u32,
 ) -> u32
-    ensures { λ r. ⌜ r ≡ again times (answerOf call what x y z (builtBy (now (whats .entry)) (now (numbers .entry)) count)) 0 ⌝ }
+    ensures { λ r. ⌜ r ≡ again times (timedAnswer call what x y z (builtBy (now (whats .entry)) (now (numbers .entry)) count)) 0 ⌝ }
 {
     let d = built(whats, numbers, count);
     repeated(call, d, what, x, y, z, times)

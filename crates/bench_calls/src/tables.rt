@@ -77,7 +77,7 @@ fn unmet_row(cs: Components, p: Point, size: u16) -> u32
 
 fn laid_rows(ws: Wires, cs: Components, n: Wire) -> u32
     requires { ⌜ (ws .count ≤ 512) × (PartsFit cs × (n .end ≤ 12000)) ⌝ }
-    ensures { λ r. ⌜ r ≡ grownRows (Run.addWire n (wireRows ws) (padsOf (componentRows cs))) ⌝ }
+    ensures { λ r. ⌜ r ≡ grownRows (Run.layWire n (wireRows ws) (padsOf (componentRows cs))) ⌝ }
 {
     let pads = all_pads(cs);
     let g = add_wire::add_wire(ws, n, pads);

@@ -4,27 +4,27 @@ use mathlib.Core.List.{[], _∷_}
 use Rattle.lists.specs.Lists.{any, all, pairs, links, keep, insert, gather}
 use Rattle.lists.specs.Tables.{pad}
 use Rattle.lists.specs.Places.{span}
-use Rattle.edge.specs.Coordinates.{biased, placeOf, sizeOf}
+use Rattle.edge.specs.Coordinates.{biased, biasedWithin, sizeOf}
 use Rattle.orientation.specs.Orientations.{sameOf, numberOf}
 use Rattle.label.specs.Labels.{padded, labelOf, heldLabel, labelOk, labelPart}
 use Rattle.sheet.specs.Points.{same, rises}
 use Rattle.sheet.specs.Lines.{ends, inside, on, meets, first}
 use Rattle.sheet.specs.Split.{splitOne, splitAt, splitAll}
-use Rattle.sheet.specs.Merge.{held, joins, glue, mergeBy, merge}
-use Rattle.sheet.specs.Run.{kept, run, rest, standing, lay, addWire, drawWire}
+use Rattle.sheet.specs.Merge.{heldApart, joins, glue, mergeBy, merge}
+use Rattle.sheet.specs.Run.{kept, run, rest, standing, lay, layWire, drawWire}
 use Rattle.sheet.specs.Joints.{bump, jointsOf, number, total, countAt}
 use Rattle.sheet.specs.Parts.{box, pads, touches}
 use Rattle.sheet.specs.Rules.{endsAt}
 use Rattle.sheet.specs.Drawings.{joints, drawn, tallyOf}
-use Rattle.sheet.specs.Edits.{wire, place, remove, meetsWire, meetsPart, delete, placeAll, turn, hits, turnRight, mirror}
+use Rattle.sheet.specs.Edits.{wire, placeOne, remove, meetsWire, meetsPart, delete, placeAll, turn, hits, turnRight, mirror}
 use Rattle.limits.specs.Limits.{blankWire, blankComponent, blankJoint, wireFits, componentFits, rooms, blanks, limits, check1}
 use Rattle.row_order.specs.RowOrder.{share, check2, upward, check7}
 use Rattle.rules.specs.Check.{free, check3, bare, check4, touchingOne, touchingFrom, check6, fromRule5, checkOf}
 use Rattle.edits.specs.Making.{roomy}
 use Rattle.redraw.specs.Calls as Calls
 use Rattle.schematic.specs.Calls.{checked}
-use Rattle.nets.specs.Numbers.{merged, netFrom, startOf, netOf, rank, meet, numberFrom, numbering, numbersOf}
-use Rattle.net_numbers.specs.Netted.{numberIn, netNumbers}
+use Rattle.nets.specs.Numbers.{merged, netFrom, firstNet, netOf, rank, meet, numberFrom, numbering, numbersOf}
+use Rattle.net_numbers.specs.Netted.{numberOfJoint, netNumbers}
 use Rattle.netlist.specs.Listing.{netWord, pinWord, relay, switch, entryLines, linesIn, kindLines, listWith, listOf, looseIn, looseOf}
 use Rattle.netlist.specs.Answers.{netlistOf, netlistIn, looseAnswer, answerOf, bufferOf}
 use Rattle.text.specs.Text.{digitsIn, decimalOf, signedOf}
@@ -36,5 +36,5 @@ use Rattle.board.specs.Lines as Lines
 use Rattle.board.specs.Table.{All, none, more, table}
 
 pub board : All table
-unfolding any all pairs links keep insert gather pad span biased placeOf sizeOf sameOf numberOf padded labelOf heldLabel labelOk labelPart same rises ends inside on meets first splitOne splitAt splitAll held joins glue mergeBy merge kept run rest standing lay addWire drawWire bump jointsOf number total countAt box pads touches endsAt joints drawn tallyOf wire place remove meetsWire meetsPart delete placeAll turn hits turnRight mirror blankWire blankComponent blankJoint wireFits componentFits rooms blanks limits check1 share check2 free check3 bare check4 touchingOne touchingFrom check6 upward check7 fromRule5 checkOf roomy Calls.edited Calls.addWire Calls.addComponent Calls.pointed Calls.deleteAt Calls.rotateAt Calls.mirrorAt checked digitsIn decimalOf signedOf Reading.digitsOf Reading.wholeOf Reading.signedOf Reading.numberOf Reading.fieldOf Reading.threeOf Reading.lettered Reading.threeLine Reading.labelled Reading.placeLine Reading.lineOf Reading.commandOf Rows.countWord Rows.placeWord Rows.labelWord Rows.tallyLine Rows.wireLine Rows.jointLine Rows.componentLine Rows.rowsOf Steps.answered Steps.counted Steps.choiceOf numberedOf Lines.said Lines.listedly Lines.asked Lines.run netlistOf netlistIn looseAnswer answerOf bufferOf netWord pinWord relay switch entryLines linesIn kindLines listWith listOf looseIn looseOf merged netFrom startOf netOf rank meet numberFrom numbering numbersOf numberIn netNumbers
+unfolding any all pairs links keep insert gather pad span biased biasedWithin sizeOf sameOf numeralOf padded labelOf heldLabel labelOk labelPart same rises ends inside on meets first splitOne splitAt splitAll heldApart joins glue mergeBy merge kept printedBy rest standing lay layWire drawWire bump jointsOf number total countAt box pads touches endsAt joints drawn tallyOf wire placeOne remove meetsWire meetsPart delete placeAll turn hits turnRight mirror blankWire blankComponent blankJoint wireFits componentFits rooms blanks limits check1 share check2 free check3 bare check4 touchingOne touchingFrom check6 upward check7 fromRule5 checkOf roomy Calls.edited Calls.layWire Calls.addComponent Calls.pointed Calls.deleteAt Calls.rotateAt Calls.mirrorAt checked digitsIn decimalOf signedNumeral Reading.digitsOf Reading.wholeOf Reading.signedNumeral Reading.numeralOf Reading.fieldOf Reading.threeOf Reading.lettered Reading.threeLine Reading.labelled Reading.placeLine Reading.lineOf Reading.commandOf Rows.countWord Rows.placeWord Rows.labelWord Rows.tallyLine Rows.wireLine Rows.jointLine Rows.componentLine Rows.rowsOf Steps.answered Steps.counted Steps.choiceOf numberedOf Lines.reported Lines.reportList Lines.callOf Lines.printedBy netlistOf netlistIn looseAnswer answerOf bufferOf netWord pinWord relay switch entryLines linesIn kindLines listWith listOf looseIn looseOf merged netFrom firstNet netOf rank meet numberFrom numbering numbersOf numberOfJoint netNumbers
 board = more refl (more refl (more refl (more refl (more refl (more refl (more refl (more refl (more refl (more refl (more refl (more refl none)))))))))))

@@ -4,19 +4,20 @@ use Prim.Native.String.{String}
 use mathlib.Core.List.{List, [], _∷_, map}
 use mathlib.Core.Path.{_≡_}
 use Rattle.step.specs.Steps.{noTally}
-use Rattle.board.specs.Lines.{run, text, emptyDrawing}
+use Rattle.board.specs.Lines.{printedBy, text, emptyDrawing}
 
+-- each line of a script, with the lines that it prints
 abbrev pub Example : Type 0
 Example = List (String × List String)
 
 -- the lines of the example, through the public calls, print what stands beside them
-abbrev pub Holds : Example → Type 0
-Holds e = run emptyDrawing noTally (map (λ l. l .0) e) ≡ map (λ l. text (l .1)) e
+abbrev pub ExampleHolds : Example → Type 0
+ExampleHolds e = printedBy emptyDrawing noTally (map (λ l. l .0) e) ≡ map (λ l. text (l .1)) e
 
 -- each of the examples holds
 pub data All : List Example → Type 0 where
   none : All []
-  more : {e : Example} {es : List Example} → Holds e → All es → All (e ∷ es)
+  more : {e : Example} {es : List Example} → ExampleHolds e → All es → All (e ∷ es)
 
 -- "Empty, `h 0 0 100`: joints (0,0) and (100,0), each 1. Then `v 50 0 80`: three wires, (50,0) has 3. Then `d 50 40 5`: back to one wire."
 abbrev pub tee : Example
@@ -27,8 +28,8 @@ tee =
     ∷ []
 
 -- "`h 0 0 100`, `v 50 -40 40`: two wires, no joint at (50,0). Then `h 0 50 60`: four wires, (50,0) has 4."
-abbrev pub crossing : Example
-crossing =
+abbrev pub bareCrossing : Example
+bareCrossing =
     ("h 0 0 100", "A 0" ∷ "T 1 2 0 2" ∷ "W h 0 0 100" ∷ "J 0 0 1" ∷ "J 100 0 1" ∷ [])
     ∷ ("v 50 -40 40", "A 0" ∷ "T 2 4 0 4" ∷ "W h 0 0 100" ∷ "W v 50 -40 40" ∷ "J 50 -40 1" ∷ "J 0 0 1" ∷ "J 100 0 1" ∷ "J 50 40 1" ∷ [])
     ∷ ("h 0 50 60", "A 0" ∷ "T 4 5 0 8" ∷ "W h 0 0 50" ∷ "W h 0 50 100" ∷ "W v 50 -40 0" ∷ "W v 50 0 40" ∷ "J 50 -40 1" ∷ "J 0 0 1" ∷ "J 50 0 4" ∷ "J 100 0 1" ∷ "J 50 40 1" ∷ [])
@@ -110,6 +111,7 @@ wholeOutput =
     ∷ ("n", "R N0 K1.A K1.B" ∷ "S K1.A N0 N1" ∷ "S K1.B N0 N2" ∷ "E 2" ∷ [])
     ∷ []
 
+-- all the examples, in the order of document 01
 abbrev pub table : List Example
 table =
-    tee ∷ crossing ∷ inLine ∷ corner ∷ zeroLength ∷ backward ∷ outside ∷ touching ∷ turnOne ∷ turnTwo ∷ padOnWire ∷ wholeOutput ∷ []
+    tee ∷ bareCrossing ∷ inLine ∷ corner ∷ zeroLength ∷ backward ∷ outside ∷ touching ∷ turnOne ∷ turnTwo ∷ padOnWire ∷ wholeOutput ∷ []

@@ -4,8 +4,8 @@ use Prim.Native.Nat.{ℕ, zero, suc}
 use native.Mathlib.Omega.{arith}
 use mathlib.Core.List.{List}
 use lib.Ieee.{Float}
-use Rattle.cad.specs.Answers.{answered, refused}
-use Rattle.draw.specs.Answers.{drawn}
+use Rattle.cad.specs.Answers.{shapeAnswer, refusedShape}
+use Rattle.draw.specs.Answers.{shapeIs}
 use Rattle.draw.specs.declared.Choice.{Choice}
 use Rattle.draw.specs.declared.Choice.the-variants.{Of, Nothing}
 use Rattle.draw.proofs.Answers.{choiceIn}
@@ -27,7 +27,7 @@ shapeIn (suc (suc (suc zero))) l = NoShape
 shapeIn (suc (suc (suc (suc zero)))) l = Unknown
 shapeIn (suc (suc (suc (suc (suc n))))) l = Mislabelled
 
-told : (s : Shape) → shapeIn (answered s .number) (answered s .values) ≡ s
+told : (s : Shape) → shapeIn (shapeAnswer s .number) (shapeAnswer s .values) ≡ s
 unfolding shapeIn shapeAs choiceIn
 told (Drawn (Line p q width)) = refl
 told (Drawn (Circle p radius width)) = refl
@@ -37,8 +37,8 @@ told Reversed = refl
 told Unknown = refl
 told Mislabelled = refl
 
-pub one-answer : (r s : Shape) → answered r ≡ answered s → r ≡ s
+pub one-answer : (r s : Shape) → shapeAnswer r ≡ shapeAnswer s → r ≡ s
 one-answer r s e = sym (told r) ∙ (λ i. shapeIn (e i .number) (e i .values)) ∙ told s
 
-pub no-refusal : (n : ℕ) (d : Draw) → refused (suc n) ≡ drawn d → ⊥
+pub no-refusal : (n : ℕ) (d : Draw) → refusedShape (suc n) ≡ shapeIs d → ⊥
 no-refusal n d p = let q : suc n ≡ 0 = λ j. p j .number in omega arith

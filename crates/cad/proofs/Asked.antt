@@ -3,13 +3,13 @@ use mathlib.Core.Path.{_≡_, refl, sym, ap}
 use Prim.Native.Nat.{ℕ, zero, suc}
 use mathlib.Core.List.{List, [], _∷_, map}
 use Rattle.draw.specs.declared.Draw.{Draw}
-use Rattle.draw.specs.Answers.{drawn, no-shape, asked}
+use Rattle.draw.specs.Answers.{shapeIs, no-shape, asked}
 use Rattle.draw.proofs.Answers.{one-draw, no-draw}
 
-pub asked-at : (f : Draw → Draw) (ds : List Draw) (i : ℕ) (r : Draw) → drawn r ≡ asked i ds → drawn (f r) ≡ asked i (map f ds)
+pub asked-at : (f : Draw → Draw) (ds : List Draw) (i : ℕ) (r : Draw) → shapeIs r ≡ asked i ds → shapeIs (f r) ≡ asked i (map f ds)
 unfolding asked
 asked-at f [] i r e = absurd (no-draw r (sym e))
-asked-at f (d ∷ ds) zero r e = ap (λ (x : Draw). drawn (f x)) (one-draw r d e)
+asked-at f (d ∷ ds) zero r e = ap (λ (x : Draw). shapeIs (f x)) (one-draw r d e)
 asked-at f (d ∷ ds) (suc i) r e = asked-at f ds i r e
 
 pub asked-past : (f : Draw → Draw) (ds : List Draw) (i : ℕ) → no-shape ≡ asked i ds → no-shape ≡ asked i (map f ds)

@@ -14,24 +14,24 @@ use Rattle.orientation.specs.declared.RotMirror.{RotMirror}
 use Rattle.label.specs.Labels.{heldLabel}
 use Rattle.label.specs.declared.Label.{Label}
 use Rattle.draw.specs.Symbols.{whole, drawsOf}
-use Rattle.draw.specs.Transforms.{position, transformOf}
+use Rattle.draw.specs.Transforms.{floatPosition, transformOf}
 use Rattle.draw.specs.Bound.{CloseDraw, MarkPoint, CloseMark, stroke, ring}
 use Rattle.draw.specs.declared.Draw.{Draw}
 use Rattle.draw.specs.declared.Draw.the-variants.{Line, Circle}
 use Rattle.draw.proofs.Bound.{transform-close, mark-point}
 use Rattle.edge.specs.Coordinates.{ranged}
 use Rattle.symbol.specs.Symbols.{knownSymbol}
-use Rattle.draw.specs.Answers.{drawn, no-shape, asked}
+use Rattle.draw.specs.Answers.{shapeIs, no-shape, asked}
 use Rattle.draw.proofs.Answers.{one-draw, no-draw}
-use Rattle.cad.specs.Answers.{refused}
+use Rattle.cad.specs.Answers.{refusedShape}
 use Rattle.cad.specs.Bound.{Shown, ComponentClose, WireMark, WireClose, JunctionClose}
 use Rattle.cad.specs.Shapes.{componentShape, wireShape, junctionShape}
 use Rattle.cad.proofs.Answers.{no-refusal}
 
-found : (o : RotMirror) (x y : ℤ) (ds : List Draw) (i : ℕ) (r : Draw) → ((d : Draw) → d ∈ ds → CloseDraw o x y d (transformOf o (position x y) d)) → asked i (map (transformOf o (position x y)) ds) ≡ drawn r → Shown o x y i ds r
+found : (o : RotMirror) (x y : ℤ) (ds : List Draw) (i : ℕ) (r : Draw) → ((d : Draw) → d ∈ ds → CloseDraw o x y d (transformOf o (floatPosition x y) d)) → asked i (map (transformOf o (floatPosition x y)) ds) ≡ shapeIs r → Shown o x y i ds r
 unfolding asked
 found o x y [] i r h e = absurd (no-draw r e)
-found o x y (d ∷ ds) zero r h e = record { d = d; at = refl; close = subst (CloseDraw o x y d) (one-draw (transformOf o (position x y) d) r e) (h d (∈-head refl)) }
+found o x y (d ∷ ds) zero r h e = record { d = d; at = refl; close = subst (CloseDraw o x y d) (one-draw (transformOf o (floatPosition x y) d) r e) (h d (∈-head refl)) }
 found o x y (d ∷ ds) (suc i) r h e = let s = found o x y ds i r (λ d m. h d (∈-tail m)) e in record { d = s .d; at = s .at; close = s .close }
 
 pub component-close : ComponentClose
@@ -39,7 +39,7 @@ unfolding componentShape
 component-close kind o x y label i a b r = go (test (knownSymbol kind o)) (test (ranged 5800 x && ranged 5800 y)) (test (eqb (heldLabel label .reply) 0))
   where
     go : {t u v : Bool} → Reads (T (knownSymbol kind o)) t → Reads (T (ranged 5800 x && ranged 5800 y)) u → Reads (T (eqb (heldLabel label .reply) 0)) v
-        → cond t (cond u (cond v (asked i (map (transformOf o (position x y)) (drawsOf kind a b))) (refused 5)) (refused 1)) (refused 4) ≡ drawn r → Shown o x y i (drawsOf kind a b) r
+        → cond t (cond u (cond v (asked i (map (transformOf o (floatPosition x y)) (drawsOf kind a b))) (refusedShape 5)) (refusedShape 1)) (refusedShape 4) ≡ shapeIs r → Shown o x y i (drawsOf kind a b) r
     go (pass k) (pass p) (pass l) e =
         found o x y (drawsOf kind a b) i r
         (transform-close o x y (both-r (leb kind 2) (known o) k) (leb→le (natAbs x) 5800 (both-l (ranged 5800 x) (ranged 5800 y) p)) (leb→le (natAbs y) 5800 (both-r (ranged 5800 x) (ranged 5800 y) p)) kind a b) e
@@ -61,13 +61,13 @@ unfolding wireShape
 wire-close vertical line start end r = go vertical (test (ranged 6000 line && (ranged 6000 start && ranged 6000 end))) (test (ltZ end start))
   where
     go : (v : Bool) {t u : Bool} → Reads (T (ranged 6000 line && (ranged 6000 start && ranged 6000 end))) t → Reads (T (ltZ end start)) u
-        → cond t (cond u (refused 2) (cond v (drawn (Line (position line start) (position line end) (whole 6))) (drawn (Line (position start line) (position end line) (whole 6))))) (refused 1) ≡ drawn r → WireMark v line start end r
+        → cond t (cond u (refusedShape 2) (cond v (shapeIs (Line (floatPosition line start) (floatPosition line end) (whole 6))) (shapeIs (Line (floatPosition start line) (floatPosition end line) (whole 6))))) (refusedShape 1) ≡ shapeIs r → WireMark v line start end r
     go true (pass p) (fail l) e =
         let h = wire-ends line start end p in
-        subst (CloseMark line start line end) (one-draw (Line (position line start) (position line end) (whole 6)) r e) (stroke (mark-point line start (h .0) (h .1 .0)) (mark-point line end (h .0) (h .1 .1)))
+        subst (CloseMark line start line end) (one-draw (Line (floatPosition line start) (floatPosition line end) (whole 6)) r e) (stroke (mark-point line start (h .0) (h .1 .0)) (mark-point line end (h .0) (h .1 .1)))
     go false (pass p) (fail l) e =
         let h = wire-ends line start end p in
-        subst (CloseMark start line end line) (one-draw (Line (position start line) (position end line) (whole 6)) r e) (stroke (mark-point start line (h .1 .0) (h .0)) (mark-point end line (h .1 .1) (h .0)))
+        subst (CloseMark start line end line) (one-draw (Line (floatPosition start line) (floatPosition end line) (whole 6)) r e) (stroke (mark-point start line (h .1 .0) (h .0)) (mark-point end line (h .1 .1) (h .0)))
     go v (pass p) (pass l) e = absurd (no-refusal 1 r e)
     go v (fail p) l e = absurd (no-refusal 0 r e)
 
@@ -76,12 +76,12 @@ unfolding junctionShape
 junction-close x y count r = go (test (ranged 6000 x && ranged 6000 y)) (test (leb 3 count)) (test (eqb count 1))
   where
     go : {t u v : Bool} → Reads (T (ranged 6000 x && ranged 6000 y)) t → Reads (T (leb 3 count)) u → Reads (T (eqb count 1)) v
-        → cond t (cond u (drawn (Line (position x y) (position x y) (whole 40))) (cond v (drawn (Circle (position x y) (whole 10) (whole 1))) no-shape)) (refused 1) ≡ drawn r → CloseMark x y x y r
+        → cond t (cond u (shapeIs (Line (floatPosition x y) (floatPosition x y) (whole 40))) (cond v (shapeIs (Circle (floatPosition x y) (whole 10) (whole 1))) no-shape)) (refusedShape 1) ≡ shapeIs r → CloseMark x y x y r
     go (pass p) u v e = marked (mark-point x y (leb→le (natAbs x) 6000 (both-l (ranged 6000 x) (ranged 6000 y) p)) (leb→le (natAbs y) 6000 (both-r (ranged 6000 x) (ranged 6000 y) p))) u v e
       where
-        marked : MarkPoint x y (position x y) → {u v : Bool} → Reads (T (leb 3 count)) u → Reads (T (eqb count 1)) v
-            → cond u (drawn (Line (position x y) (position x y) (whole 40))) (cond v (drawn (Circle (position x y) (whole 10) (whole 1))) no-shape) ≡ drawn r → CloseMark x y x y r
-        marked m (pass u) v e = subst (CloseMark x y x y) (one-draw (Line (position x y) (position x y) (whole 40)) r e) (stroke m m)
-        marked m (fail u) (pass v) e = subst (CloseMark x y x y) (one-draw (Circle (position x y) (whole 10) (whole 1)) r e) (ring m)
+        marked : MarkPoint x y (floatPosition x y) → {u v : Bool} → Reads (T (leb 3 count)) u → Reads (T (eqb count 1)) v
+            → cond u (shapeIs (Line (floatPosition x y) (floatPosition x y) (whole 40))) (cond v (shapeIs (Circle (floatPosition x y) (whole 10) (whole 1))) no-shape) ≡ shapeIs r → CloseMark x y x y r
+        marked m (pass u) v e = subst (CloseMark x y x y) (one-draw (Line (floatPosition x y) (floatPosition x y) (whole 40)) r e) (stroke m m)
+        marked m (fail u) (pass v) e = subst (CloseMark x y x y) (one-draw (Circle (floatPosition x y) (whole 10) (whole 1)) r e) (ring m)
         marked m (fail u) (fail v) e = absurd (no-draw r e)
     go (fail p) u v e = absurd (no-refusal 0 r e)

@@ -11,14 +11,14 @@ use Rattle.label.specs.declared.Label.{Label}
 use Rattle.label.specs.declared.Held.{Held}
 use Rattle.edge.specs.Coordinates.{ranged}
 use Rattle.symbol.specs.Symbols.{knownSymbol}
-use Rattle.draw.specs.Answers.{Answer, drawn, no-shape, chosen, asked}
+use Rattle.draw.specs.Answers.{Answer, shapeIs, no-shape, chosen, asked}
 use Rattle.draw.specs.Symbols.{drawsOf}
-use Rattle.draw.specs.Transforms.{position, transformOf}
+use Rattle.draw.specs.Transforms.{floatPosition, transformOf}
 use Rattle.draw.specs.declared.Vector2.{Vector2}
 use Rattle.draw.specs.declared.Draw.{Draw}
 use Rattle.draw.specs.declared.Choice.{Choice}
 use Rattle.draw.specs.declared.Choice.the-variants.{Of, Nothing}
-use Rattle.cad.specs.Answers.{refused}
+use Rattle.cad.specs.Answers.{refusedShape}
 use Rattle.cad.specs.Shapes.{componentShape}
 use Rattle.cad.proofs.Asked.{asked-at, asked-past}
 use Rattle.cad.proofs.Places.{Tested}
@@ -27,7 +27,7 @@ module _ (kind : ℕ) (o : RotMirror) where
   symbol-test : {k t : Bool} → k ≡ knownSymbol kind o → k ≡ t → knownSymbol kind o ≡ t
   symbol-test K t = sym K ∙ t
 
-  pub unknown : (x y : ℤ) (label : Label) (i : ℕ) (a b : Bool) {k : Bool} → k ≡ knownSymbol kind o → k ≡ false → refused 4 ≡ componentShape kind o x y label i a b
+  pub unknown : (x y : ℤ) (label : Label) (i : ℕ) (a b : Bool) {k : Bool} → k ≡ knownSymbol kind o → k ≡ false → refusedShape 4 ≡ componentShape kind o x y label i a b
   unfolding componentShape
   unknown x y label i a b K t = simp (symbol-test K t)
 
@@ -38,25 +38,25 @@ module _ (kind : ℕ) (o : RotMirror) where
     place-test : {u : Bool} → (p && q) ≡ u → (ranged 5800 x && ranged 5800 y) ≡ u
     place-test u = sym (λ j. X .is j && Y .is j) ∙ u
 
-    pub off-sheet : (p && q) ≡ false → Right (refused 1)
+    pub off-sheet : (p && q) ≡ false → Right (refusedShape 1)
     unfolding componentShape
     off-sheet u = simp (symbol-test K t, place-test u)
 
     module _ {h : Held} (u : (p && q) ≡ true) (H : h ≡ heldLabel label) where
-      pub mislabelled : (h .reply ≡ 0 → ⊥) → Right (refused 5)
+      pub mislabelled : (h .reply ≡ 0 → ⊥) → Right (refusedShape 5)
       unfolding componentShape
       mislabelled f = simp (symbol-test K t, place-test u, ne-eqb (heldLabel label .reply) 0 (λ r. f ((λ j. H j .reply) ∙ r)))
 
       module _ (g : h .reply ≡ 0) (r : Choice) (R : chosen r ≡ asked i (drawsOf kind a b)) where
-        good : Right (asked i (map (transformOf o (position x y)) (drawsOf kind a b)))
+        good : Right (asked i (map (transformOf o (floatPosition x y)) (drawsOf kind a b)))
         unfolding componentShape
         good = simp (symbol-test K t, place-test u, eq-eqb (heldLabel label .reply) 0 (sym (λ j. H j .reply) ∙ g))
 
         pub past : r ≡ Nothing → Right no-shape
-        past e = asked-past (transformOf o (position x y)) (drawsOf kind a b) i (sym (ap chosen e) ∙ R) ∙ good
+        past e = asked-past (transformOf o (floatPosition x y)) (drawsOf kind a b) i (sym (ap chosen e) ∙ R) ∙ good
 
-        pub shown : {d e : Draw} {v : Vector2} → r ≡ Of d → v ≡ position x y → e ≡ transformOf o v d → Right (drawn e)
+        pub shown : {d e : Draw} {v : Vector2} → r ≡ Of d → v ≡ floatPosition x y → e ≡ transformOf o v d → Right (shapeIs e)
         shown {d} e f w =
-            ap drawn (w ∙ (λ j. transformOf o (f j) d))
-            ∙ asked-at (transformOf o (position x y)) (drawsOf kind a b) i d (sym (ap chosen e) ∙ R)
+            ap shapeIs (w ∙ (λ j. transformOf o (f j) d))
+            ∙ asked-at (transformOf o (floatPosition x y)) (drawsOf kind a b) i d (sym (ap chosen e) ∙ R)
             ∙ good

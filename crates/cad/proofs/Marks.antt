@@ -7,13 +7,13 @@ use lib.IntN.{ℤ}
 use lib.Signed.{ltZ}
 use borrow.Author.Tests.{le-leb, lt-leb, eq-eqb, ne-eqb}
 use Rattle.draw.specs.Symbols.{whole}
-use Rattle.draw.specs.Transforms.{position}
+use Rattle.draw.specs.Transforms.{floatPosition}
 use Rattle.draw.specs.declared.Vector2.{Vector2}
 use Rattle.draw.specs.declared.Draw.the-variants.{Line, Circle}
 use Rattle.lists.proofs.Tests.{both}
 use Rattle.edge.specs.Coordinates.{ranged}
-use Rattle.draw.specs.Answers.{Answer, drawn, no-shape}
-use Rattle.cad.specs.Answers.{refused}
+use Rattle.draw.specs.Answers.{Answer, shapeIs, no-shape}
+use Rattle.cad.specs.Answers.{refusedShape}
 use Rattle.cad.specs.Shapes.{wireShape, junctionShape}
 use Rattle.cad.proofs.Places.{Tested, Small, small, small-two}
 
@@ -24,7 +24,7 @@ module _ (vertical : Bool) {line start end : ℤ} {l s e : Bool} (L : Tested 600
   range : {b : Bool} → (l && (s && e)) ≡ b → (ranged 6000 line && (ranged 6000 start && ranged 6000 end)) ≡ b
   range t = sym (λ j. L .is j && (S .is j && E .is j)) ∙ t
 
-  pub wire-outside : (l && (s && e)) ≡ false → Wire (refused 1)
+  pub wire-outside : (l && (s && e)) ≡ false → Wire (refusedShape 1)
   unfolding wireShape
   wire-outside t = simp (range t)
 
@@ -32,16 +32,16 @@ module _ (vertical : Bool) {line start end : ℤ} {l s e : Bool} (L : Tested 600
     pub small-three : Small line × (Small start × Small end)
     small-three = let k = both l (s && e) t in (small L (lit≤ tt) (k .0), small-two S E (lit≤ tt) (k .1))
 
-    pub reversed : ltZ end start ≡ true → Wire (refused 2)
+    pub reversed : ltZ end start ≡ true → Wire (refusedShape 2)
     unfolding wireShape
     reversed u = simp (range t, u)
 
     module _ {p q : Vector2} (u : ltZ end start ≡ false) where
-      pub downward : vertical ≡ true → p ≡ position line start → q ≡ position line end → Wire (drawn (Line p q (whole 6)))
+      pub downward : vertical ≡ true → p ≡ floatPosition line start → q ≡ floatPosition line end → Wire (shapeIs (Line p q (whole 6)))
       unfolding wireShape
       downward v f g = simp (range t, u, v, f, g)
 
-      pub across : vertical ≡ false → p ≡ position start line → q ≡ position end line → Wire (drawn (Line p q (whole 6)))
+      pub across : vertical ≡ false → p ≡ floatPosition start line → q ≡ floatPosition end line → Wire (shapeIs (Line p q (whole 6)))
       unfolding wireShape
       across v f g = simp (range t, u, v, f, g)
 
@@ -52,17 +52,17 @@ module _ {x y : ℤ} (count : ℕ) {a b : Bool} (X : Tested 6000 x a) (Y : Teste
   at-point : {t : Bool} → (a && b) ≡ t → (ranged 6000 x && ranged 6000 y) ≡ t
   at-point t = sym (λ j. X .is j && Y .is j) ∙ t
 
-  pub mark-outside : (a && b) ≡ false → Mark (refused 1)
+  pub mark-outside : (a && b) ≡ false → Mark (refusedShape 1)
   unfolding junctionShape
   mark-outside t = simp (at-point t)
 
-  module _ {p : Vector2} (t : (a && b) ≡ true) (f : p ≡ position x y) where
-    pub dot : 3 ≤ count → Mark (drawn (Line p p (whole 40)))
+  module _ {p : Vector2} (t : (a && b) ≡ true) (f : p ≡ floatPosition x y) where
+    pub dot : 3 ≤ count → Mark (shapeIs (Line p p (whole 40)))
     unfolding junctionShape
     dot h = simp (at-point t, le-leb 3 count h, f)
 
     module _ (h : count < 3) where
-      pub loose : count ≡ 1 → Mark (drawn (Circle p (whole 10) (whole 1)))
+      pub loose : count ≡ 1 → Mark (shapeIs (Circle p (whole 10) (whole 1)))
       unfolding junctionShape
       loose k = simp (at-point t, lt-leb 3 count h, eq-eqb count 1 k, f)
 

@@ -12,9 +12,9 @@ use mir.Val.{SFits, toZ, ofZ}
 use mir.Facts.{toZ-ofZ}
 use borrow.Author.Tests.{leb-true}
 use Rattle.lists.proofs.Tests.{both}
-use Rattle.edge.specs.Coordinates.{ranged, placeOf}
+use Rattle.edge.specs.Coordinates.{ranged, biasedWithin}
 use Rattle.edge.specs.declared.Found.{Found}
-use Rattle.draw.specs.Transforms.{position}
+use Rattle.draw.specs.Transforms.{floatPosition}
 use Rattle.draw.specs.declared.Vector2.{Vector2}
 
 abbrev handed : ℤ → ℤ
@@ -25,9 +25,9 @@ as-it-was {z} f = toZ-ofZ {w = w32} {z = z} f
 
 -- ---- what `place` and `place_component` tell is the test
 
-pub place-test : (limit : ℕ) {z : ℤ} {p : Found} → SFits w32 z → p ≡ placeOf limit (handed z) → p .inside ≡ ranged limit z
-unfolding placeOf
-place-test limit f e = ap (λ (p : Found). p .inside) (e ∙ ap (placeOf limit) (as-it-was f))
+pub place-test : (limit : ℕ) {z : ℤ} {p : Found} → SFits w32 z → p ≡ biasedWithin limit (handed z) → p .inside ≡ ranged limit z
+unfolding biasedWithin
+place-test limit f e = ap (λ (p : Found). p .inside) (e ∙ ap (biasedWithin limit) (as-it-was f))
 
 -- ---- a test r of a coordinate z that is handed over
 
@@ -42,8 +42,8 @@ module _ {limit : ℕ} {z w : ℤ} {a b : Bool} (Z : Tested limit z a) (W : Test
   pub less-test : {t : Bool} → ltZ (handed z) (handed w) ≡ t → ltZ z w ≡ t
   less-test e = sym (λ i. ltZ (as-it-was (Z .fits) i) (as-it-was (W .fits) i)) ∙ e
 
-  pub converted : {p : Vector2} → p ≡ position (handed z) (handed w) → p ≡ position z w
-  converted e = e ∙ (λ i. position (as-it-was (Z .fits) i) (as-it-was (W .fits) i))
+  pub converted : {p : Vector2} → p ≡ floatPosition (handed z) (handed w) → p ≡ floatPosition z w
+  converted e = e ∙ (λ i. floatPosition (as-it-was (Z .fits) i) (as-it-was (W .fits) i))
 
 -- where the test passes, z is as small as a position
 abbrev pub Small : ℤ → Type 0

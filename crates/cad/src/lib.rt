@@ -3,8 +3,8 @@ ghost use mathlib.Core.Path.{_≡_};
 ghost use Prim.Native.Nat.{_≤_};
 ghost use lib.IntN.{natAbs};
 ghost use Rattle.edge.specs.Coordinates.{ranged};
-ghost use Rattle.draw.specs.Transforms.{position};
-ghost use Rattle.cad.specs.Answers.{answered};
+ghost use Rattle.draw.specs.Transforms.{floatPosition};
+ghost use Rattle.cad.specs.Answers.{shapeAnswer};
 ghost use Rattle.cad.specs.Shapes.{componentShape, wireShape, junctionShape};
 use draw::Choice;
 use draw::Draw;
@@ -45,7 +45,7 @@ fn on_sheet(z: i32) -> bool
 // A position in floats, exactly.
 fn convert(x: i32, y: i32) -> Vector2
     requires { ⌜ (natAbs x ≤ 6000) × (natAbs y ≤ 6000) ⌝ }
-    ensures { λ r. ⌜ r ≡ position x y ⌝ }
+    ensures { λ r. ⌜ r ≡ floatPosition x y ⌝ }
 {
     Vector2 {
         x: x as f32,
@@ -64,7 +64,7 @@ pub fn component(
     a: bool,
     b: bool,
 ) -> Shape
-    ensures { λ r. ⌜ answered r ≡ componentShape kind o x y label i a b ⌝ }
+    ensures { λ r. ⌜ shapeAnswer r ≡ componentShape kind o x y label i a b ⌝ }
 {
     if !symbol::is_known(kind, o) {
         return Shape::Unknown;
@@ -84,7 +84,7 @@ pub fn component(
 
 // The mark of a wire.
 pub fn wire(vertical: bool, line: i32, start: i32, end: i32) -> Shape
-    ensures { λ r. ⌜ answered r ≡ wireShape vertical line start end ⌝ }
+    ensures { λ r. ⌜ shapeAnswer r ≡ wireShape vertical line start end ⌝ }
 {
     if !(on_sheet(line) & (on_sheet(start) & on_sheet(end))) {
         return Shape::Outside;
@@ -100,7 +100,7 @@ pub fn wire(vertical: bool, line: i32, start: i32, end: i32) -> Shape
 
 // The mark of a joint with so many wire ends and pads.
 pub fn junction(x: i32, y: i32, count: u16) -> Shape
-    ensures { λ r. ⌜ answered r ≡ junctionShape x y count ⌝ }
+    ensures { λ r. ⌜ shapeAnswer r ≡ junctionShape x y count ⌝ }
 {
     if !(on_sheet(x) & on_sheet(y)) {
         return Shape::Outside;

@@ -9,7 +9,7 @@ use mathlib.Core.Logic.{⊎-elim, _⊎_, inl, inr}
 use lib.ListN.{length, getD, take, set, replicate}
 use lib.Seq.{getD-set-same, getD-set-other, getD-take, length-take-le}
 use Rattle.lists.proofs.Tests.{decide, eqb-reads, compare}
-use Rattle.chains.specs.Chains.{Met, here, later, Chained}
+use Rattle.chains.specs.Chains.{Met, here, later, Traced}
 
 zeros : (n k : ℕ) → _≡_ {A = ℕ} (getD (replicate n 0) k 0) 0
 zeros zero k = refl
@@ -18,7 +18,7 @@ zeros (suc n) (suc k) = zeros n k
 
 -- the first i numbers of l are chained
 pub record Building (key : ℕ → ℕ) (l : List ℕ) (i : ℕ) (last before : List ℕ) : Type 0 where
-  pub chained : Chained key (take i l) last before
+  pub chained : Traced key (take i l) last before
 
 pub build-start : (key : ℕ → ℕ) (l : List ℕ) (m n : ℕ) → Building key l 0 (replicate m 0) (replicate n 0)
 build-start key l m n = record {
@@ -29,8 +29,8 @@ build-start key l m n = record {
   };
 }
 
-pub build-end : {key : ℕ → ℕ} {l last before : List ℕ} {i : ℕ} (n : ℕ) → Building key l i last before → i ≡ n → Chained key (take n l) last before
-build-end {key} {l} {last} {before} n b e = subst (λ (k : ℕ). Chained key (take k l) last before) e (b .chained)
+pub build-end : {key : ℕ → ℕ} {l last before : List ℕ} {i : ℕ} (n : ℕ) → Building key l i last before → i ≡ n → Traced key (take n l) last before
+build-end {key} {l} {last} {before} n b e = subst (λ (k : ℕ). Traced key (take k l) last before) e (b .chained)
 
 -- a link further up changes nothing of what is met from below
 met-set : {before : List ℕ} {k j : ℕ} (i v : ℕ) → ((m : ℕ) → m < i → getD before m 0 ≤ m) → Met before k j → k ≤ i → Met (set before i v) k j
@@ -57,7 +57,7 @@ build-next {key} {l} {last} {before} {i} k built e hl hk hb = record {
   };
 }
   where
-    c : Chained key (take i l) last before
+    c : Traced key (take i l) last before
     c = built .chained
 
     new : List ℕ

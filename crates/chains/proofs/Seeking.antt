@@ -10,7 +10,7 @@ use borrow.Author.Tests.{eq-eqb, eqb-true}
 use lib.ListN.{length, getD}
 use Rattle.lists.specs.Lists.{any}
 use Rattle.lists.proofs.Tests.{holds, passes, agree, ltb-reads}
-use Rattle.chains.specs.Chains.{Met, here, later, Chained, Place}
+use Rattle.chains.specs.Chains.{Met, here, later, Traced, Place}
 
 -- c, if it is one of the list, is still to be met from k on
 pub record Sought (c : ℕ) (cs before : List ℕ) (k : ℕ) : Type 0 where
@@ -36,7 +36,7 @@ place-any c (x ∷ cs) (suc j) h e = step (eqb c x) (place-any c cs j (le-of-suc
     step true q = refl
     step false q = q
 
-pub sought-start : {key : ℕ → ℕ} {cs last before : List ℕ} (c : ℕ) → Chained key cs last before → Sought c cs before (getD last (key c) 0)
+pub sought-start : {key : ℕ → ℕ} {cs last before : List ℕ} (c : ℕ) → Traced key cs last before → Sought c cs before (getD last (key c) 0)
 sought-start {key} {cs} {last} {before} c h = record {
   ahead = λ e. let t = any-place c cs e in (t .0, t .2, subst (λ (x : ℕ). Met before (getD last (key x) 0) (t .0)) (t .2) (h .met (t .0) (t .1)));
   within = h .starts (key c);
@@ -51,7 +51,7 @@ met-next here f = absurd (f refl)
 met-next (later p) f = p
 
 -- the link at k leads further down
-pub sought-falls : {key : ℕ → ℕ} {cs last before : List ℕ} {c k : ℕ} → Chained key cs last before → Sought c cs before k → 0 < k → getD before (k - 1) 0 ≤ k - 1
+pub sought-falls : {key : ℕ → ℕ} {cs last before : List ℕ} {c k : ℕ} → Traced key cs last before → Sought c cs before k → 0 < k → getD before (k - 1) 0 ≤ k - 1
 sought-falls {k = k} h s l = h .falls (k - 1) (omega (arith, s .within))
 
 pub sought-next : {c k : ℕ} {cs before : List ℕ} → Sought c cs before k → 0 < k → (getD cs (k - 1) 0 ≡ c → ⊥) → getD before (k - 1) 0 ≤ k - 1 → Sought c cs before (getD before (k - 1) 0)

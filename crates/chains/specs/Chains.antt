@@ -1,4 +1,5 @@
--- Numbers of one key are chained, each to the last one before it. A link is a place plus one, and 0 ends the chain.
+-- Numbers found by key, for "exactly two wire ends in line, without a pad". Those of one key are linked, each to the last one before it. A
+-- link is a place plus one, and 0 is the end.
 use Prim.Native.Nat.{ℕ, suc, _≤_, _<_}
 use mathlib.Core.List.{List}
 use mathlib.Core.Path.{_≡_}
@@ -12,7 +13,7 @@ pub data Met (before : List ℕ) : ℕ → ℕ → Type 0 where
   later : {i j : ℕ} → Met before (getD before i 0) j → Met before (suc i) j
 
 -- each number of the list is met from the last place of its key, and links fall
-pub record Chained (key : ℕ → ℕ) (cs last before : List ℕ) : Type 0 where
+pub record Traced (key : ℕ → ℕ) (cs last before : List ℕ) : Type 0 where
   pub met : (j : ℕ) → j < length cs → Met before (getD last (key (getD cs j 0)) 0) j
   pub falls : (j : ℕ) → j < length cs → getD before j 0 ≤ j
   pub starts : (k : ℕ) → getD last k 0 ≤ length cs

@@ -4,7 +4,7 @@ ghost use Prim.Native.Nat.{_≤_, _<_, _%_};
 ghost use lib.Dec.{eqb};
 ghost use lib.ListN.{take};
 ghost use Rattle.lists.specs.Lists.{any};
-ghost use Rattle.chains.specs.Chains.{Chained, Place};
+ghost use Rattle.chains.specs.Chains.{Traced, Place};
 
 // The last place of each key, and for each place the one before it with its key; both plus one, and 0 for none.
 pub struct Index {
@@ -28,7 +28,7 @@ fn wide(x: u16) -> usize
 // The chains of the first n numbers.
 pub fn chain(codes: [u64; 1408], n: usize) -> Index
     requires { ⌜ n ≤ 1408 ⌝ }
-    ensures { λ r. ⌜ Chained (λ c. c % 4093) (take n codes) (r .last) (r .before) ⌝ }
+    ensures { λ r. ⌜ Traced (λ c. c % 4093) (take n codes) (r .last) (r .before) ⌝ }
 {
     let last = [0u16; 4096];
     let before = [0u16; 1408];
@@ -53,7 +53,7 @@ pub fn place_of(
     before: &[u16; 1408],
     c: u64,
 ) -> usize
-    requires { ⌜ (n ≤ 1408) × Chained (λ c. c % 4093) (take n (now codes)) (now last) (now before) ⌝ }
+    requires { ⌜ (n ≤ 1408) × Traced (λ c. c % 4093) (take n (now codes)) (now last) (now before) ⌝ }
     ensures { λ r. ⌜ Place c (take n (now (codes .entry))) n r ⌝ }
 {
     let key = key_of(c);
@@ -76,7 +76,7 @@ pub fn is_in(
     before: &[u16; 1408],
     c: u64,
 ) -> bool
-    requires { ⌜ (n ≤ 1408) × Chained (λ c. c % 4093) (take n (now codes)) (now last) (now before) ⌝ }
+    requires { ⌜ (n ≤ 1408) × Traced (λ c. c % 4093) (take n (now codes)) (now last) (now before) ⌝ }
     ensures { λ r. ⌜ r ≡ any (eqb c) (take n (now (codes .entry))) ⌝ }
 {
     place_of(codes, n, last, before, c) < n

@@ -14,11 +14,11 @@ use mir.Syntax.{w32, w64}
 use mir.Val.{SFits, Fits, toZ, ofZ}
 use mir.Facts.{toZ-ofZ}
 use Rattle.script.specs.Grammar.{byte}
-use Rattle.script.specs.Reading.{then, fieldOf}
+use Rattle.script.specs.Reading.{then, fieldOf, ending}
 use Rattle.check_script.specs.declared.Said.{Said}
 use Rattle.check_script.specs.declared.Said.the-variants.{Unreadable}
 use Rattle.check_script.specs.Counts.{Table, wires, components, joints}
-use Rattle.check_script.specs.Reading.{ending, countedOf, countOf}
+use Rattle.check_script.specs.Reading.{countedOf, countOf}
 
 -- ---- the number and its letter
 
@@ -75,7 +75,7 @@ count-wrong (a ∷ []) h n = absurd (omega arith)
 count-wrong (a ∷ b ∷ []) h n = absurd (omega arith)
 count-wrong (a ∷ b ∷ c ∷ l) h n = rw (ne-eqb _ _ n)
 
-pub count-is : (l : List ℕ) → 3 ≤ length l → getD l 1 0 ≡ byte " " → countOf (drop 1 l) ≡ then (fieldOf (drop 3 l)) (λ z. ending (countedOf (getD l 2 0) z)) Unreadable
+pub count-is : (l : List ℕ) → 3 ≤ length l → getD l 1 0 ≡ byte " " → countOf (drop 1 l) ≡ then (fieldOf (drop 3 l)) (λ z. ending Unreadable (countedOf (getD l 2 0) z)) Unreadable
 unfolding countOf
 count-is [] h e = absurd (omega arith)
 count-is (a ∷ []) h e = absurd (omega arith)

@@ -10,11 +10,11 @@ use lib.ListN.{length, take, drop}
 use lib.Seq.{take-all, length-take-le}
 use Rattle.lists.proofs.Tests.{decide, leb-reads}
 use Rattle.script.specs.Grammar.{byte}
-use Rattle.script.specs.Reading.{behind}
+use Rattle.script.specs.Reading.{afterByte, ending}
 use Rattle.script.specs.Indexes.{begins}
 use Rattle.check_script.specs.declared.Said.{Said}
 use Rattle.check_script.specs.declared.Said.the-variants.{End, Unreadable}
-use Rattle.check_script.specs.Reading.{ending, rowOf, countOf, lineOf, saidOf}
+use Rattle.check_script.specs.Reading.{rowOf, countOf, lineSaid, saidOf}
 use Rattle.check_script.proofs.Letters.{on-byte, off-byte, ended, not-ended}
 
 pub too-long : (l : List ℕ) → 80 < length l → saidOf l ≡ Unreadable
@@ -32,17 +32,17 @@ said-81 l = ⊎-elim (λ (le : length l ≤ 80). ap saidOf (take-all 81 l (omega
 
 -- a row that stands behind the counts
 abbrev behindRow : List ℕ → List ℕ → Said
-behindRow l t = behind (byte " ") t (rowOf (length l) true) Unreadable
+behindRow l t = afterByte (byte " ") t (rowOf (length l) true) Unreadable
 
 abbrev noCount : List ℕ → Said
-noCount l = behind (byte ".") l (ending End) (rowOf (length l) false l)
+noCount l = afterByte (byte ".") l (ending Unreadable End) (rowOf (length l) false l)
 
 abbrev noBehind : List ℕ → Said
-noBehind l = behind (byte "#") l countOf (noCount l)
+noBehind l = afterByte (byte "#") l countOf (noCount l)
 
 module _ (l : List ℕ) (h : length l ≤ 80) {z : Bool} (is-z : z ≡ begins (byte "Z") l) where
   from-z : z ≡ true → behindRow l (drop 1 l) ≡ saidOf l
-  unfolding saidOf lineOf
+  unfolding saidOf lineSaid
   from-z y = rw (le-leb _ _ h) (on-byte (byte "Z") (behindRow l) (noBehind l) l 0 is-z y)
 
   module _ {s : Bool} (is-s : s ≡ begins (byte " ") (drop 1 l)) (y : z ≡ true) where
@@ -54,7 +54,7 @@ module _ (l : List ℕ) (h : length l ≤ 80) {z : Bool} (is-z : z ≡ begins (b
 
   module _ (n : z ≡ false) {c : Bool} (is-c : c ≡ begins (byte "#") l) where
     not-z : noBehind l ≡ saidOf l
-    unfolding saidOf lineOf
+    unfolding saidOf lineSaid
     not-z = rw (le-leb _ _ h) (off-byte (byte "Z") (behindRow l) (noBehind l) l 0 is-z n)
 
     pub a-count : c ≡ true → countOf (drop 1 l) ≡ saidOf l
@@ -64,8 +64,8 @@ module _ (l : List ℕ) (h : length l ≤ 80) {z : Bool} (is-z : z ≡ begins (b
       not-c : noCount l ≡ saidOf l
       not-c = off-byte (byte "#") countOf (noCount l) l 0 is-c m ∙ not-z
 
-      dot : p ≡ true → ending End (drop 1 l) ≡ saidOf l
-      dot x = on-byte (byte ".") (ending End) (rowOf (length l) false l) l 0 is-p x ∙ not-c
+      dot : p ≡ true → ending Unreadable End (drop 1 l) ≡ saidOf l
+      dot x = on-byte (byte ".") (ending Unreadable End) (rowOf (length l) false l) l 0 is-p x ∙ not-c
 
       pub an-end : p ≡ true → length l ≡ 1 → End ≡ saidOf l
       an-end x e = sym (ended End l 1 (omega arith)) ∙ dot x
@@ -74,4 +74,4 @@ module _ (l : List ℕ) (h : length l ≤ 80) {z : Bool} (is-z : z ≡ begins (b
       no-end x e = sym (not-ended End l 1 e) ∙ dot x
 
       pub a-row : p ≡ false → rowOf (length l) false l ≡ saidOf l
-      a-row x = off-byte (byte ".") (ending End) (rowOf (length l) false l) l 0 is-p x ∙ not-c
+      a-row x = off-byte (byte ".") (ending Unreadable End) (rowOf (length l) false l) l 0 is-p x ∙ not-c

@@ -13,9 +13,9 @@ use mir.Val.{SFits, Fits, toZ, ofZ}
 use mir.Facts.{toZ-ofZ, toZ-pos}
 use Rattle.edge.specs.Coordinates.{toℕ, biased}
 use Rattle.edge.proofs.Whole.{sub-pos}
-use Rattle.script.specs.Reading.{Found, found, missing, fieldOf}
+use Rattle.script.specs.Reading.{Front, found, missing, fieldOf}
 use Rattle.script.proofs.Signs.{back}
-use Rattle.check_script.specs.Reading.{fitted, heldOf}
+use Rattle.check_script.specs.Reading.{fitted, fittedField}
 
 -- ---- the tests
 
@@ -40,21 +40,21 @@ between (suc k) high (negsuc n) e g = lt-ltb n (suc k) (let h = ltb-false k n e 
 -- ---- what is read, where the code tests the number as the machine holds it
 
 module _ {A : Type 0} (low high : ℕ) (f : ℤ → A) (s : List ℕ) where
-  pub held-none : fieldOf s ≡ missing → missing ≡ heldOf low high f s
-  unfolding heldOf
+  pub held-none : fieldOf s ≡ missing → missing ≡ fittedField low high f s
+  unfolding fittedField
   held-none e = rw e
 
   module _ {z : ℤ} {t : List ℕ} (e : fieldOf s ≡ found z t) (m : mag z < 2 ^ 31) where
-    pub held-low : ltZ (toZ w32 (ofZ w32 z)) (negℤ (pos low)) ≡ true → missing ≡ heldOf low high f s
-    unfolding heldOf
+    pub held-low : ltZ (toZ w32 (ofZ w32 z)) (negℤ (pos low)) ≡ true → missing ≡ fittedField low high f s
+    unfolding fittedField
     held-low l = rw (e, too-low low high z (rw (back z m) at l))
 
-    pub held-high : ltZ (pos high) (toZ w32 (ofZ w32 z)) ≡ true → missing ≡ heldOf low high f s
-    unfolding heldOf
+    pub held-high : ltZ (pos high) (toZ w32 (ofZ w32 z)) ≡ true → missing ≡ fittedField low high f s
+    unfolding fittedField
     held-high h = rw (e, too-high low high z (rw (back z m) at h))
 
-    pub held-in : ltZ (toZ w32 (ofZ w32 z)) (negℤ (pos low)) ≡ false → ltZ (pos high) (toZ w32 (ofZ w32 z)) ≡ false → {a : A} → a ≡ f z → found a t ≡ heldOf low high f s
-    unfolding heldOf
+    pub held-in : ltZ (toZ w32 (ofZ w32 z)) (negℤ (pos low)) ≡ false → ltZ (pos high) (toZ w32 (ofZ w32 z)) ≡ false → {a : A} → a ≡ f z → found a t ≡ fittedField low high f s
+    unfolding fittedField
     held-in l h q = rw (e, q, between low high z (rw (back z m) at l) (rw (back z m) at h))
 
 -- ---- a coordinate, with 6,000 added

@@ -1,4 +1,4 @@
--- The tables whose counts a line tells outright.
+-- The tables whose counts a line tells outright; "counts are within the rooms" is for the check to say.
 use Prim.Native.Nat.{ℕ}
 use Prim.Native.Char.{Char}
 use Rattle.check_script.specs.declared.Said.{Said}

@@ -1,11 +1,11 @@
--- What the functions on an index of a line tell, as the text from that index on.
+-- What the functions on an index of a line tell ("Orientation: four signed numbers"), as the text from that index on.
 use mathlib.Core.Bool.{Bool}
 use mathlib.Core.List.{List}
 use Prim.Native.Nat.{ℕ}
 use lib.ListN.{drop}
 use lib.IntN.{ℤ}
 use Rattle.orientation.specs.declared.RotMirror.{RotMirror}
-use Rattle.script.specs.Reading.{Found, found, missing}
+use Rattle.script.specs.Reading.{Front, found, missing}
 use Rattle.check_script.specs.declared.fields.Natural.{Natural}
 use Rattle.check_script.specs.declared.fields.Natural.the-variants.{Read, Missing}
 use Rattle.check_script.specs.declared.fields.Sign.{Sign}
@@ -15,18 +15,22 @@ use Rattle.check_script.specs.declared.fields.Turn.the-variants.{Is, IsN
 use Rattle.check_script.specs.declared.fields.Direction.{Direction}
 use Rattle.check_script.specs.declared.fields.Direction.the-variants.{Vertical, Neither}
 
-abbrev pub naturalFound : List ℕ → Natural → Found ℕ
+-- a number of 16 bits, and the text behind it
+abbrev pub naturalFound : List ℕ → Natural → Front ℕ
 naturalFound line (Read n next) = found n (drop next line)
 naturalFound line Missing = missing
 
-abbrev pub signFound : List ℕ → Sign → Found ℤ
+-- a signed number of 8 bits
+abbrev pub signFound : List ℕ → Sign → Front ℤ
 signFound line (Of z next) = found z (drop next line)
 signFound line None = missing
 
-abbrev pub turnFound : List ℕ → Turn → Found RotMirror
+-- four of these
+abbrev pub turnFound : List ℕ → Turn → Front RotMirror
 turnFound line (Is o next) = found o (drop next line)
 turnFound line IsNot = missing
 
-abbrev pub directionFound : List ℕ → Direction → Found Bool
+-- whether the wire is vertical
+abbrev pub directionFound : List ℕ → Direction → Front Bool
 directionFound line (Vertical v next) = found v (drop next line)
 directionFound line Neither = missing

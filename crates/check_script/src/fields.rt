@@ -1,11 +1,11 @@
 // Numbers of a line that a row can hold, each read from an index of the line on.
 ghost use mathlib.Core.Path.{_≡_};
 ghost use lib.ListN.{drop};
-ghost use Rattle.check_script.specs.Reading.{coordinateOf, naturalOf, signOf, turnOf, letterOf, directionOf};
+ghost use Rattle.check_script.specs.Reading.{coordinateOf, naturalOf, signOf, turnOf, verticalOf, directionOf};
 ghost use Rattle.check_script.specs.Indexes.{naturalFound, signFound, turnFound, directionFound};
 use orientation::RotMirror;
 use script::numbers;
-use script::numbers::Number;
+use script::numbers::Numeral;
 
 // A number of 16 bits, and the index behind it.
 pub enum Natural {
@@ -35,7 +35,7 @@ pub enum Direction {
 pub fn coordinate_at(line: &[u8], at: usize) -> Natural
     ensures { λ r. ⌜ naturalFound (now (line .entry)) r ≡ coordinateOf (drop at (now (line .entry))) ⌝ }
 {
-    let Number::Read(z, next) = numbers::field_at(line, at) else {
+    let Numeral::Read(z, next) = numbers::field_at(line, at) else {
         return Natural::Missing;
     };
     if z < -6000 {
@@ -51,7 +51,7 @@ pub fn coordinate_at(line: &[u8], at: usize) -> Natural
 pub fn natural_at(line: &[u8], at: usize) -> Natural
     ensures { λ r. ⌜ naturalFound (now (line .entry)) r ≡ naturalOf (drop at (now (line .entry))) ⌝ }
 {
-    let Number::Read(z, next) = numbers::field_at(line, at) else {
+    let Numeral::Read(z, next) = numbers::field_at(line, at) else {
         return Natural::Missing;
     };
     if z < 0 {
@@ -67,7 +67,7 @@ pub fn natural_at(line: &[u8], at: usize) -> Natural
 pub fn sign_at(line: &[u8], at: usize) -> Sign
     ensures { λ r. ⌜ signFound (now (line .entry)) r ≡ signOf (drop at (now (line .entry))) ⌝ }
 {
-    let Number::Read(z, next) = numbers::field_at(line, at) else {
+    let Numeral::Read(z, next) = numbers::field_at(line, at) else {
         return Sign::None;
     };
     if z < -128 {
@@ -100,7 +100,7 @@ pub fn turn_at(line: &[u8], at: usize) -> Turn
 
 // `h` or `v`.
 fn letter_at(line: &[u8], at: usize) -> Direction
-    ensures { λ r. ⌜ directionFound (now (line .entry)) r ≡ letterOf (drop at (now (line .entry))) ⌝ }
+    ensures { λ r. ⌜ directionFound (now (line .entry)) r ≡ verticalOf (drop at (now (line .entry))) ⌝ }
 {
     if numbers::is_at(line, at, b'h') {
         return Direction::Vertical(false, at + 1);

@@ -5,13 +5,13 @@ pub mod fields;
 ghost use mathlib.Core.Path.{_≡_};
 ghost use lib.ListN.{length, drop};
 ghost use Rattle.check_script.specs.declared.Said.the-variants.{Component};
-ghost use Rattle.check_script.specs.Reading.{wireOf, jointOf, labelled, standsOf, componentOf, rowOf, countedOf, countOf, saidOf};
+ghost use Rattle.check_script.specs.Reading.{wireOf, jointOf, labelledRow, standsOf, componentOf, rowOf, countedOf, countOf, saidOf};
 use fields::Direction;
 use fields::Natural;
 use fields::Turn;
 use orientation::RotMirror;
 use script::numbers;
-use script::numbers::Number;
+use script::numbers::Numeral;
 use sheet::Joint;
 use sheet::Wire;
 
@@ -98,7 +98,7 @@ fn labelled_row(
     x: u16,
     y: u16,
 ) -> Said
-    ensures { λ r. ⌜ r ≡ labelled (length (now (line .entry))) (Component behind kind turn x y) (drop at (now (line .entry))) ⌝ }
+    ensures { λ r. ⌜ r ≡ labelledRow (length (now (line .entry))) (Component behind kind turn x y) (drop at (now (line .entry))) ⌝ }
 {
     let len = line.len();
     if len <= at {
@@ -197,7 +197,7 @@ fn count_line(line: &[u8]) -> Said
         return Said::Unreadable;
     }
     if line[1] == b' ' {
-        let Number::Read(n, next) = numbers::field_at(line, 3) else {
+        let Numeral::Read(n, next) = numbers::field_at(line, 3) else {
             return Said::Unreadable;
         };
         if next < line.len() {
@@ -208,7 +208,7 @@ fn count_line(line: &[u8]) -> Said
     Said::Unreadable
 }
 
-// What a line says. Two wrong answers that this rules out: a label of 17 bytes cut to 16, and a row with more behind its numbers.
+// What a line says. Two wrong answers that this rules out: a label of 17 bytes cut to 16, and a row behind the counts that counts.
 pub fn read_line(line: &[u8]) -> Said
     ensures { λ r. ⌜ r ≡ saidOf (now (line .entry)) ⌝ }
 {

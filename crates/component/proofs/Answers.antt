@@ -14,10 +14,10 @@ use borrow.Author.Tests.{leb-true}
 use Rattle.lists.proofs.Tests.{agree, both-l, both-r}
 use Rattle.orientation.specs.Orientations.{known}
 use Rattle.orientation.specs.declared.RotMirror.{RotMirror}
-use Rattle.edge.specs.Coordinates.{coordOf, biased, ranged, placeOf, insideOf}
+use Rattle.edge.specs.Coordinates.{coordOf, biased, ranged, biasedWithin, insideOf}
 use Rattle.edge.specs.declared.Found.{Found}
 use Rattle.edge.proofs.Places.{back, narrow-test}
-use Rattle.symbol.specs.Symbols.{Offset, knownSymbol, off, minus, applied, movedOf, unused, padsAt, padBlock, padsFor, refusalOf, padsOf, lowAt, highAt, boundsAt, boundsFor, aabbOf, Sound}
+use Rattle.symbol.specs.Symbols.{Offset, knownSymbol, off, minus, applied, movedOf, unused, padsAt, padBlock, padsFor, refusalOf, padsReplyOf, lowAt, highAt, boundsAt, boundsFor, aabbOf, Positioned}
 use Rattle.symbol.specs.declared.Point.{Point}
 use Rattle.symbol.specs.declared.PadsReply.{PadsReply}
 use Rattle.symbol.specs.declared.BoundsReply.{BoundsReply}
@@ -30,9 +30,9 @@ use Rattle.component.specs.declared.BoxAnswer.{BoxAnswer}
 use Rattle.component.proofs.Order.{coord-min, coord-max}
 
 -- ---- a component's coordinate, as rows hold it; z comes out of its bits as it was
-pub held-at : (z : ℤ) → SFits w32 z → {p : Found} → p ≡ placeOf 5800 (toZ w32 (ofZ w32 z)) → p .at ≡ heldOf z
-unfolding placeOf heldOf
-held-at z f e = ap (λ (p : Found). p .at) (e ∙ ap (placeOf 5800) (toZ-ofZ {w = w32} {z = z} f))
+pub held-at : (z : ℤ) → SFits w32 z → {p : Found} → p ≡ biasedWithin 5800 (toZ w32 (ofZ w32 z)) → p .at ≡ heldOf z
+unfolding biasedWithin heldOf
+held-at z f e = ap (λ (p : Found). p .at) (e ∙ ap (biasedWithin 5800) (toZ-ofZ {w = w32} {z = z} f))
 
 held-test : (z : ℤ) → insideOf (heldOf z) ≡ ranged 5800 z
 unfolding heldOf
@@ -61,7 +61,7 @@ module _ (kind : ℕ) (o : RotMirror) (x y : ℤ) where
 
   -- what is right where kind, orientation and position are
   module _ (k : T (knownSymbol kind o)) (p : T (ranged 5800 x && ranged 5800 y)) where
-    sound : Sound o (heldOf x) (heldOf y)
+    sound : Positioned o (heldOf x) (heldOf y)
     sound = tests-placeable kind o (heldOf x) (heldOf y) k (subst T (sym (λ i. held-test x i && held-test y i)) p) .sound
 
     point : (q : Offset) → T (near q) → shownOf (movedOf o (heldOf x) (heldOf y) q) true ≡ positionOf o x y q
@@ -104,8 +104,8 @@ module _ (kind : ℕ) (o : RotMirror) (x y : ℤ) where
       ∙ (λ i. spanned (point kind o x y k p (lowAt kind) tt i) (point kind o x y k p (highAt kind) (high-near kind) i))
 
   -- ---- the calls over the numbers of rows, shown
-  pads-shown : shownPads (padsOf kind o (heldOf x) (heldOf y)) ≡ componentPadsOf kind o x y
-  unfolding padsOf componentPadsOf
+  pads-shown : shownPads (padsReplyOf kind o (heldOf x) (heldOf y)) ≡ componentPadsOf kind o x y
+  unfolding padsReplyOf componentPadsOf
   pads-shown =
       let f : ℕ → PadsAnswer = λ n. shownPads (padsFor n (padBlock kind o (heldOf x) (heldOf y))) in
       ap f (sym (reply kind o x y)) ∙ by-reply (knownSymbol kind o) (ranged 5800 x && ranged 5800 y) f (pads-right kind o x y) refl refl
@@ -124,11 +124,11 @@ module _ (kind : ℕ) (o : RotMirror) (x y : ℤ) where
     is-y : n ≡ heldOf y
     is-y = en ∙ ap heldOf (toZ-ofZ {w = w32} {z = y} g)
 
-    pub pads-answered : (r : PadsReply) (p q s : Position) → r ≡ padsOf kind o m n
+    pub pads-answered : (r : PadsReply) (p q s : Position) → r ≡ padsReplyOf kind o m n
         → p ≡ shownOf (getD (r .pads .points) 0 unused) (ltb 0 (r .pads .count)) → q ≡ shownOf (getD (r .pads .points) 1 unused) (ltb 1 (r .pads .count)) → s ≡ shownOf (getD (r .pads .points) 2 unused) (ltb 2 (r .pads .count))
         → _≡_ {A = PadsAnswer} (record { reply = r .reply; points = p ∷ q ∷ s ∷ []; count = r .pads .count }) (componentPadsOf kind o x y)
     pads-answered r p q s er ep eq es =
-        (λ i. record { reply = r .reply; points = ep i ∷ eq i ∷ es i ∷ []; count = r .pads .count }) ∙ ap shownPads (er ∙ (λ i. padsOf kind o (is-x i) (is-y i))) ∙ pads-shown
+        (λ i. record { reply = r .reply; points = ep i ∷ eq i ∷ es i ∷ []; count = r .pads .count }) ∙ ap shownPads (er ∙ (λ i. padsReplyOf kind o (is-x i) (is-y i))) ∙ pads-shown
 
     pub box-answered : (r : BoundsReply) (p q : Position) → r ≡ aabbOf kind o m n
         → p ≡ shownOf (r .bounds .low) (eqb (r .reply) 0) → q ≡ shownOf (r .bounds .high) (eqb (r .reply) 0)

@@ -13,6 +13,7 @@ use Rattle.component.specs.declared.Position.{Position}
 use Rattle.component.specs.declared.PadsAnswer.{PadsAnswer}
 use Rattle.component.specs.declared.BoxAnswer.{BoxAnswer}
 
+-- (0,0)
 abbrev pub origin : Position
 origin = record { x = pos 0; y = pos 0 }
 
@@ -24,14 +25,16 @@ positionOf o x y q = record { x = x +ℤ applied o q .dx; y = y +ℤ applied o q
 abbrev pub answer : ℕ → List Position → PadsAnswer
 answer n ps = record { reply = n; points = take 3 (ps ++ (origin ∷ origin ∷ origin ∷ [])); count = length ps }
 
--- "Component position: −5,800 to 5,800." "A box, pads or a turn asked of a bad kind, orientation or position get 4 or 1, in that order, and zeros for every number."
+-- "Component position: −5,800 to 5,800." "A box, pads or a turn asked of a bad kind, orientation or position get 4 or 1, in that order,
+-- and zeros for every number."
 unfoldable pub componentPadsOf : ℕ → RotMirror → ℤ → ℤ → PadsAnswer
 componentPadsOf kind o x y = cond (knownSymbol kind o) (cond (ranged 5800 x && ranged 5800 y) (answer 0 (map (positionOf o x y) (padsAt kind))) (answer 1 [])) (answer 4 [])
 
--- the lesser and the greater of two whole numbers
+-- the lesser of two whole numbers
 abbrev pub minZ : ℤ → ℤ → ℤ
 minZ z w = cond (leZ z w) z w
 
+-- the greater of two whole numbers
 abbrev pub maxZ : ℤ → ℤ → ℤ
 maxZ z w = cond (leZ z w) w z
 
@@ -39,9 +42,11 @@ maxZ z w = cond (leZ z w) w z
 abbrev pub spanned : Position → Position → BoxAnswer
 spanned p q = record { reply = 0; low = record { x = minZ (p .x) (q .x); y = minZ (p .y) (q .y) }; high = record { x = maxZ (p .x) (q .x); y = maxZ (p .y) (q .y) } }
 
+-- the refusal n, with "zeros for every number"
 abbrev pub noBox : ℕ → BoxAnswer
 noBox n = record { reply = n; low = origin; high = origin }
 
+-- the box, or 4 or 1
 unfoldable pub componentBoxOf : ℕ → RotMirror → ℤ → ℤ → BoxAnswer
 componentBoxOf kind o x y = cond (knownSymbol kind o) (cond (ranged 5800 x && ranged 5800 y) (spanned (positionOf o x y (lowAt kind)) (positionOf o x y (highAt kind))) (noBox 1)) (noBox 4)
 

@@ -4,8 +4,8 @@ use Prim.Native.Nat.{ℕ}
 use native.Mathlib.Omega.{arith}
 use mathlib.Core.List.{List, [], _∷_}
 use lib.Ieee.{Float}
-use Rattle.draw.specs.Answers.{chosen, drawn, no-shape}
-use Rattle.draw.specs.Symbols.{at}
+use Rattle.draw.specs.Answers.{chosen, shapeIs, no-shape}
+use Rattle.draw.specs.Symbols.{vector}
 use Rattle.draw.specs.declared.Draw.{Draw}
 use Rattle.draw.specs.declared.Draw.the-variants.{Line, Circle}
 use Rattle.draw.specs.declared.Choice.{Choice}
@@ -17,8 +17,8 @@ choiceIn [] = Nothing
 choiceIn (a ∷ []) = Nothing
 choiceIn (a ∷ (b ∷ [])) = Nothing
 choiceIn (a ∷ (b ∷ (c ∷ []))) = Nothing
-choiceIn (a ∷ (b ∷ (c ∷ (d ∷ [])))) = Of (Circle (at a b) c d)
-choiceIn (a ∷ (b ∷ (c ∷ (d ∷ (e ∷ l))))) = Of (Line (at a b) (at c d) e)
+choiceIn (a ∷ (b ∷ (c ∷ (d ∷ [])))) = Of (Circle (vector a b) c d)
+choiceIn (a ∷ (b ∷ (c ∷ (d ∷ (e ∷ l))))) = Of (Line (vector a b) (vector c d) e)
 
 pub told : (r : Choice) → choiceIn (chosen r .values) ≡ r
 unfolding choiceIn
@@ -29,8 +29,8 @@ told Nothing = refl
 pub one-choice : (r s : Choice) → chosen r ≡ chosen s → r ≡ s
 one-choice r s e = sym (told r) ∙ (λ i. choiceIn (e i .values)) ∙ told s
 
-pub one-draw : (d e : Draw) → drawn d ≡ drawn e → d ≡ e
+pub one-draw : (d e : Draw) → shapeIs d ≡ shapeIs e → d ≡ e
 one-draw d e p = let q : Of d ≡ Of e = one-choice (Of d) (Of e) p in cc
 
-pub no-draw : (d : Draw) → no-shape ≡ drawn d → ⊥
+pub no-draw : (d : Draw) → no-shape ≡ shapeIs d → ⊥
 no-draw d p = let q : Nothing ≡ Of d = one-choice Nothing (Of d) p in let n : _≡_ {A = ℕ} 0 1 = cc in omega arith

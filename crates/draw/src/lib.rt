@@ -2,7 +2,7 @@
 ghost use mathlib.Core.Path.{_≡_};
 ghost use lib.Ieee.{binary32, add};
 ghost use Rattle.float.specs.Drawn.{turned};
-ghost use Rattle.draw.specs.Transforms.{movedOf, transformOf};
+ghost use Rattle.draw.specs.Transforms.{movedPoint, transformOf};
 use orientation::RotMirror;
 
 mod symbols;
@@ -36,7 +36,7 @@ fn drawn(a: i8, b: i8, x: f32, y: f32, t: f32) -> f32
 
 // A point, turned by o and moved by t.
 fn moved(p: Vector2, o: RotMirror, t: Vector2) -> Vector2
-    ensures { λ r. ⌜ r ≡ movedOf o t p ⌝ }
+    ensures { λ r. ⌜ r ≡ movedPoint o t p ⌝ }
 {
     let rx = drawn(o.0, o.1, p.x, p.y, t.x);
     let ry = drawn(o.2, o.3, p.x, p.y, t.y);

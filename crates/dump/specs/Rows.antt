@@ -7,7 +7,7 @@ use lib.ListN.{length}
 use Rattle.lists.specs.Lists.{gather}
 use Rattle.edge.specs.Coordinates.{coordOf}
 use Rattle.orientation.specs.declared.RotMirror.{RotMirror}
-use Rattle.orientation.specs.Orientations.{Numbered, numberOf}
+use Rattle.orientation.specs.Orientations.{NumberReply, numberOf}
 use Rattle.label.specs.Labels.{labelPart}
 use Rattle.sheet.specs.declared.Wire.{Wire}
 use Rattle.sheet.specs.declared.Joint.{Joint}
@@ -32,7 +32,7 @@ abbrev pub letterOf : Bool → ℕ
 letterOf vertical = cond vertical 118 104
 
 -- the number of an orientation, "0 to 7"; 8 where it has none, as in no lawful drawing
-abbrev pub numberIn : Numbered → ℕ
+abbrev pub numberIn : NumberReply → ℕ
 numberIn r = cond (eqb (r .reply) 0) (r .number) 8
 
 abbrev pub orientNumber : RotMirror → ℕ

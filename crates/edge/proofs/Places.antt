@@ -11,7 +11,7 @@ use mir.Syntax.{w16, w32}
 use mir.Val.{SFits, Fits, toZ, ofZ}
 use mir.Facts.{toZ-ofZ, toZ-pos}
 use borrow.Author.Tests.{ltb-true, ltb-false, le-leb, lt-leb, leb-true, leb-false}
-use Rattle.edge.specs.Coordinates.{toℕ, coordOf, biased, ranged, found, placeOf, insideOf}
+use Rattle.edge.specs.Coordinates.{toℕ, coordOf, biased, ranged, found, biasedWithin, insideOf}
 use Rattle.edge.specs.declared.Found.{Found}
 use Rattle.lists.proofs.Tests.{reads-as, and-reads, leb-reads, same-test}
 use Rattle.edge.proofs.Whole.{sub-pos, sub-neg, biased-sub, mag-sub}
@@ -20,14 +20,14 @@ use Rattle.edge.proofs.Whole.{sub-pos, sub-neg, biased-sub, mag-sub}
 abbrev pub nowhere : Found
 nowhere = record { inside = false; at = 0 }
 
-placed-as : (k : ℕ) (z : ℤ) {b : Bool} → ranged k z ≡ b → placeOf k z ≡ found b (biased z)
-unfolding placeOf
+placed-as : (k : ℕ) (z : ℤ) {b : Bool} → ranged k z ≡ b → biasedWithin k z ≡ found b (biased z)
+unfolding biasedWithin
 placed-as k z e = λ i. found (e i) (biased z)
 
-pub outside : (k : ℕ) (z : ℤ) → k < natAbs z → nowhere ≡ placeOf k z
+pub outside : (k : ℕ) (z : ℤ) → k < natAbs z → nowhere ≡ biasedWithin k z
 outside k z h = sym (placed-as k z (lt-leb (natAbs z) k h))
 
-pub inside : (k : ℕ) (z : ℤ) → natAbs z ≤ k → found true (biased z) ≡ placeOf k z
+pub inside : (k : ℕ) (z : ℤ) → natAbs z ≤ k → found true (biased z) ≡ biasedWithin k z
 inside k z h = sym (placed-as k z (le-leb (natAbs z) k h))
 
 pub too-low : (k : ℕ) (z : ℤ) → ltZ z (negsuc k) ≡ true → suc k < natAbs z
@@ -56,10 +56,10 @@ module _ (z : ℤ) (f : SFits w32 z) where
   is : toZ w32 (ofZ w32 z) ≡ z
   is = toZ-ofZ {w = w32} {z = z} f
 
-  pub low : ltZ (toZ w32 (ofZ w32 z)) (negsuc 5999) ≡ true → nowhere ≡ placeOf 6000 z
+  pub low : ltZ (toZ w32 (ofZ w32 z)) (negsuc 5999) ≡ true → nowhere ≡ biasedWithin 6000 z
   low e = outside 6000 z (too-low 5999 z (sym (λ i. ltZ (is i) (negsuc 5999)) ∙ e))
 
-  pub high : ltZ (pos 6000) (toZ w32 (ofZ w32 z)) ≡ true → nowhere ≡ placeOf 6000 z
+  pub high : ltZ (pos 6000) (toZ w32 (ofZ w32 z)) ≡ true → nowhere ≡ biasedWithin 6000 z
   high e = outside 6000 z (too-high 6000 z (sym (λ i. ltZ (pos 6000) (is i)) ∙ e))
 
   module _ (e : ltZ (toZ w32 (ofZ w32 z)) (negsuc 5999) ≡ false) (g : ltZ (pos 6000) (toZ w32 (ofZ w32 z)) ≡ false) where
@@ -81,7 +81,7 @@ module _ (z : ℤ) (f : SFits w32 z) where
     pub cast-fits : T (nonNeg (toZ w32 (ofZ w32 (toZ w32 (ofZ w32 z) +ℤ pos 6000)))) × Fits w16 (natAbs (toZ w32 (ofZ w32 (toZ w32 (ofZ w32 z) +ℤ pos 6000))))
     cast-fits = let h = small in subst (λ (y : ℤ). T (nonNeg y) × Fits w16 (natAbs y)) (sym read) (tt, record { fits = omega arith })
 
-    pub placed : found true (natAbs (toZ w32 (ofZ w32 (toZ w32 (ofZ w32 z) +ℤ pos 6000)))) ≡ placeOf 6000 z
+    pub placed : found true (natAbs (toZ w32 (ofZ w32 (toZ w32 (ofZ w32 z) +ℤ pos 6000)))) ≡ biasedWithin 6000 z
     placed = ap (λ (y : ℤ). found true (natAbs y)) read ∙ inside 6000 z inner
 
 -- ---- a component's range is the narrower one
@@ -100,14 +100,14 @@ chosen true n = refl
 chosen false n = refl
 
 -- what `place` finds, if it is a position, is what the narrower range asks
-pub narrowed : (z : ℤ) (p : Found) {b : Bool} → p ≡ placeOf 6000 z → insideOf (p .at) ≡ b → cond b p nowhere ≡ placeOf 5800 z
+pub narrowed : (z : ℤ) (p : Found) {b : Bool} → p ≡ biasedWithin 6000 z → insideOf (p .at) ≡ b → cond b p nowhere ≡ biasedWithin 5800 z
 narrowed z p {b} e t = go (leb (natAbs z) 6000) refl
   where
     far : (b : Bool) → cond b nowhere nowhere ≡ nowhere
     far true = refl
     far false = refl
 
-    go : (c : Bool) → leb (natAbs z) 6000 ≡ c → cond b p nowhere ≡ placeOf 5800 z
+    go : (c : Bool) → leb (natAbs z) 6000 ≡ c → cond b p nowhere ≡ biasedWithin 5800 z
     go true l =
         let h = leb-true (natAbs z) 6000 l in
         let q : p ≡ found true (biased z) = e ∙ sym (inside 6000 z h) in
@@ -117,8 +117,8 @@ narrowed z p {b} e t = go (leb (natAbs z) 6000) refl
         ap (λ (f : Found). cond b f nowhere) (e ∙ sym (outside 6000 z h)) ∙ far b ∙ outside 5800 z (omega arith)
 
 -- a coordinate that is handed on comes out of its bits as it was
-pub handed : (z : ℤ) → SFits w32 z → placeOf 6000 z ≡ placeOf 6000 (toZ w32 (ofZ w32 z))
-handed z f = ap (placeOf 6000) (sym (toZ-ofZ {w = w32} {z = z} f))
+pub handed : (z : ℤ) → SFits w32 z → biasedWithin 6000 z ≡ biasedWithin 6000 (toZ w32 (ofZ w32 z))
+handed z f = ap (biasedWithin 6000) (sym (toZ-ofZ {w = w32} {z = z} f))
 
 -- ---- there and back
 pub back : (z : ℤ) → natAbs z ≤ 6000 → coordOf (biased z) ≡ z

@@ -30,8 +30,8 @@ abbrev pub found : Bool → ℕ → Found
 found b n = record { inside = b; at = cond b n 0 }
 
 -- a coordinate from -limit to limit, as a row's number
-unfoldable pub placeOf : ℕ → ℤ → Found
-placeOf limit z = found (ranged limit z) (biased z)
+unfoldable pub biasedWithin : ℕ → ℤ → Found
+biasedWithin limit z = found (ranged limit z) (biased z)
 
 -- a component's position as rows hold it: -5,800 to 5,800
 abbrev pub insideOf : ℕ → Bool

@@ -1,6 +1,6 @@
 // The edge between the coordinates of document 01 and the numbers that rows hold: 6,000 more.
 ghost use mathlib.Core.Path.{_≡_};
-ghost use Rattle.edge.specs.Coordinates.{coordOf, placeOf, insideOf, sizeOf};
+ghost use Rattle.edge.specs.Coordinates.{coordOf, biasedWithin, insideOf, sizeOf};
 
 // A coordinate as rows hold it, or none and 0.
 pub struct Found {
@@ -21,7 +21,7 @@ pub enum PointerSize {
 
 // A coordinate of a wire end or the pointer, -6,000 to 6,000, as rows hold it.
 pub fn place(x: i32) -> Found
-    ensures { λ r. ⌜ r ≡ placeOf 6000 x ⌝ }
+    ensures { λ r. ⌜ r ≡ biasedWithin 6000 x ⌝ }
 {
     if x < -6000 {
         return NOWHERE;
@@ -44,7 +44,7 @@ pub fn is_position(n: u16) -> bool
 
 // A coordinate of a component, -5,800 to 5,800, as rows hold it.
 pub fn place_component(x: i32) -> Found
-    ensures { λ r. ⌜ r ≡ placeOf 5800 x ⌝ }
+    ensures { λ r. ⌜ r ≡ biasedWithin 5800 x ⌝ }
 {
     let p = place(x);
     if is_position(p.at) {

@@ -7,7 +7,7 @@ use lib.ListN.{length}
 use Rattle.lists.proofs.Tests.{Reads, reads-as, and-reads, leb-reads, choose}
 use Rattle.sheet.specs.declared.Components.{Components}
 use Rattle.sheet.specs.Drawings.{Sheet}
-use Rattle.sheet.specs.Wiring.{Room}
+use Rattle.sheet.proofs.Wiring.{Roomy}
 use Rattle.sheet.specs.Edits.{Outcome}
 use Rattle.wires.specs.declared.Grown.{Grown}
 use Rattle.wires.specs.Tables.{Grows}
@@ -16,15 +16,15 @@ use Rattle.parts.specs.Tables.{TabledParts}
 use Rattle.edits.specs.declared.Made.{Made}
 use Rattle.edits.specs.Making.{roomy, tables, noRoom, made}
 
-pub roomy-reads : (s : Sheet) → Reads (Room s) (roomy s)
+pub roomy-reads : (s : Sheet) → Reads (Roomy s) (roomy s)
 unfolding roomy
 roomy-reads s = reads-as (λ p. record { wires = p .0; parts = p .1 }, λ r. (r .wires, r .parts)) (and-reads (leb-reads (length (s .wires)) 512) (leb-reads (length (s .parts)) 128))
 
-pub made-room : (o : Outcome) → Room (o .sheet) → made o ≡ tables o
+pub made-room : (o : Outcome) → Roomy (o .sheet) → made o ≡ tables o
 unfolding made
 made-room o r = choose (roomy-reads (o .sheet)) (λ (x : Made). x ≡ tables o) (λ _. refl) (λ f. absurd (f r))
 
-pub made-none : (o : Outcome) → (Room (o .sheet) → ⊥) → made o ≡ noRoom
+pub made-none : (o : Outcome) → (Roomy (o .sheet) → ⊥) → made o ≡ noRoom
 unfolding made
 made-none o f = choose (roomy-reads (o .sheet)) (λ (x : Made). x ≡ noRoom) (λ r. absurd (f r)) (λ _. refl)
 

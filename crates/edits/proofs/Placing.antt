@@ -17,9 +17,9 @@ use Rattle.sheet.specs.declared.Wires.{Wires}
 use Rattle.sheet.specs.declared.Components.{Components}
 use Rattle.sheet.specs.Parts.{PartFits, pads, touches, ahead}
 use Rattle.sheet.specs.Drawings.{Sheet, componentRows}
-use Rattle.sheet.specs.Edits.{Placed, place, placeAll}
+use Rattle.sheet.specs.Edits.{Placed, placeOne, placeAll}
 use Rattle.wires.specs.declared.Grown.{Grown}
-use Rattle.wires.specs.Tables.{Grows, Cut}
+use Rattle.wires.specs.Tables.{Grows, Splits}
 use Rattle.wires.proofs.Growing.{grows-room}
 use Rattle.parts.specs.Tables.{TabledParts, PartsFit}
 use Rattle.joints.specs.Tables.{sheetOf, Sound}
@@ -52,7 +52,7 @@ module _ (n : ℕ) (c : Component) (cs : List Component) (s : Sheet) where
   next-lost e = let more : n + suc (placeAll cs s .lost) ≡ n + 1 + placeAll cs s .lost = omega arith in
       rw e (λ i. record { sheet = placeAll cs s .sheet; lost = more i })
 
-  next-placed : any (touches c) (s .parts) ≡ false → lose n (placeAll (c ∷ cs) s) ≡ lose n (placeAll cs (place c s))
+  next-placed : any (touches c) (s .parts) ≡ false → lose n (placeAll (c ∷ cs) s) ≡ lose n (placeAll cs (placeOne c s))
   unfolding placeAll
   next-placed e = rw e
 
@@ -73,14 +73,14 @@ module _ {whole : Placed} {alter : Component → Component} {rows : List Compone
       rest = rest-next d (s .rest) (λ xs. next-lost lost (alter (getD rows i d)) (map alter xs) (s .sheet) ((λ j. any (touches (sym e j)) (sym (holds-list (s .parts)) j)) ∙ t)) h k;
     }
 
-    pub placing-placed : {u : Grown} {v : Components} → PartFits c → any (touches c) (componentRows cs) ≡ false → Cut (pads c) g u → TabledParts (insert ahead c (componentRows cs)) v → Placing whole alter rows m (i + 1) u v lost
-    unfolding place
+    pub placing-placed : {u : Grown} {v : Components} → PartFits c → any (touches c) (componentRows cs) ≡ false → Splits (pads c) g u → TabledParts (insert ahead c (componentRows cs)) v → Placing whole alter rows m (i + 1) u v lost
+    unfolding placeOne
     placing-placed f t a b = record {
-      sheet = place c (s .sheet);
+      sheet = placeOne c (s .sheet);
       wires = a .so (s .sheet .wires) (s .wires);
       parts = holds-as (ap (insert ahead c) (holds-list (s .parts))) b;
       fits = λ z q. ⊎-elim (λ (x : z ≡ c). subst PartFits (sym x) f) (s .fits z) (insert-in ahead c (s .sheet .parts) q);
-      rest = rest-next d (s .rest) (λ xs. next-placed lost (alter (getD rows i d)) (map alter xs) (s .sheet) ((λ j. any (touches (sym e j)) (sym (holds-list (s .parts)) j)) ∙ t) ∙ (λ j. lose lost (placeAll (map alter xs) (place (sym e j) (s .sheet))))) h k;
+      rest = rest-next d (s .rest) (λ xs. next-placed lost (alter (getD rows i d)) (map alter xs) (s .sheet) ((λ j. any (touches (sym e j)) (sym (holds-list (s .parts)) j)) ∙ t) ∙ (λ j. lose lost (placeAll (map alter xs) (placeOne (sym e j) (s .sheet))))) h k;
     }
 
   pub placing-end : m ≤ i → m ≤ length rows → Grows (whole .sheet .wires) g × (TabledParts (whole .sheet .parts) cs × (lost ≡ whole .lost))

@@ -15,13 +15,13 @@ use Rattle.sheet.specs.declared.Component.{Component}
 use Rattle.sheet.specs.declared.Wires.{Wires}
 use Rattle.sheet.specs.declared.Components.{Components}
 use Rattle.sheet.specs.Merge.{merge}
-use Rattle.sheet.specs.Run.{addWire}
+use Rattle.sheet.specs.Run.{layWire}
 use Rattle.sheet.specs.Parts.{PartFits, pads, padsOf, ahead}
 use Rattle.sheet.specs.Drawings.{Sheet, wireRows, componentRows}
-use Rattle.sheet.specs.Edits.{wire, place, remove, placeAll, turn, hits}
+use Rattle.sheet.specs.Edits.{wire, placeOne, remove, placeAll, turn, hits}
 use Rattle.sheet.proofs.Run.{drawn-idle, drawn-added}
 use Rattle.wires.specs.declared.Grown.{Grown}
-use Rattle.wires.specs.Tables.{Tabled, Grows, Cut}
+use Rattle.wires.specs.Tables.{Tabled, Grows, Splits}
 use Rattle.wires.proofs.Growing.{grows-room, grows-as}
 use Rattle.parts.specs.Tables.{TabledParts, PartsFit}
 use Rattle.joints.specs.Tables.{sheetOf, Sound}
@@ -35,9 +35,9 @@ module _ (n : Wire) {ws : Wires} {cs : Components} (s : Sound ws cs) where
   unfolding wire
   idle-wires e = grows-room _ refl (holds-as (sym (drawn-idle n e (wireRows ws) (padsOf (componentRows cs)))) (s .wires))
 
-  pub drawn-wires : (n .start ≡ n .end → ⊥) → {ps : List Point} {g : Grown} → ps ≡ padsOf (componentRows cs) → Grows (addWire n (wireRows ws) ps) g → Grows (wire n (sheetOf ws cs) .wires) g
+  pub drawn-wires : (n .start ≡ n .end → ⊥) → {ps : List Point} {g : Grown} → ps ≡ padsOf (componentRows cs) → Grows (layWire n (wireRows ws) ps) g → Grows (wire n (sheetOf ws cs) .wires) g
   unfolding wire
-  drawn-wires f e h = grows-as (ap (addWire n (wireRows ws)) e ∙ sym (drawn-added n f (wireRows ws) (padsOf (componentRows cs)))) h
+  drawn-wires f e h = grows-as (ap (layWire n (wireRows ws)) e ∙ sym (drawn-added n f (wireRows ws) (padsOf (componentRows cs)))) h
 
   pub same-parts : TabledParts (wire n (sheetOf ws cs) .parts) cs
   unfolding wire
@@ -46,16 +46,16 @@ module _ (n : Wire) {ws : Wires} {cs : Components} (s : Sound ws cs) where
 -- ---- place
 
 module _ (c : Component) {ws : Wires} {cs : Components} (s : Sound ws cs) where
-  pub placed-full : 128 ≤ cs .count → noRoom ≡ made (quiet (place c (sheetOf ws cs)))
-  unfolding place
+  pub placed-full : 128 ≤ cs .count → noRoom ≡ made (quiet (placeOne c (sheetOf ws cs)))
+  unfolding placeOne
   placed-full h = sym (made-none _ (λ r. let m : length (insert ahead c (componentRows cs)) ≤ 128 = r .parts in omega (arith, length-insert ahead c (componentRows cs), s .parts .count-is)))
 
-  pub placed-wires : {h : Grown} → Cut (pads c) (record { full = false; table = ws }) h → Grows (place c (sheetOf ws cs) .wires) h
-  unfolding place
+  pub placed-wires : {h : Grown} → Splits (pads c) (record { full = false; table = ws }) h → Grows (placeOne c (sheetOf ws cs) .wires) h
+  unfolding placeOne
   placed-wires k = k .so (wireRows ws) (grows-room (wireRows ws) refl (s .wires))
 
-  pub placed-parts : {t : Components} → TabledParts (insert ahead c (componentRows cs)) t → TabledParts (place c (sheetOf ws cs) .parts) t
-  unfolding place
+  pub placed-parts : {t : Components} → TabledParts (insert ahead c (componentRows cs)) t → TabledParts (placeOne c (sheetOf ws cs) .parts) t
+  unfolding placeOne
   placed-parts h = h
 
 -- ---- delete

@@ -3,7 +3,7 @@ ghost use mathlib.Core.Path.{_≡_};
 ghost use Prim.Native.Nat.{_≤_};
 ghost use Rattle.sheet.specs.Parts.{PartFits, pads};
 ghost use Rattle.sheet.specs.Edits;
-ghost use Rattle.wires.specs.Tables.{Cut};
+ghost use Rattle.wires.specs.Tables.{Splits};
 ghost use Rattle.joints.specs.Tables.{sheetOf, Sound};
 ghost use Rattle.edits.specs.Making.{quiet, made};
 use crate::Made;
@@ -20,7 +20,7 @@ use wires::split::split_pads;
 // Each pad splits each wire that it lies strictly inside.
 pub(crate) fn split_at_pads(g: Grown, c: Component) -> Grown
     requires { ⌜ (g .table .count ≤ 512) × PartFits c ⌝ }
-    ensures { λ r. ⌜ Cut (pads c) g r ⌝ }
+    ensures { λ r. ⌜ Splits (pads c) g r ⌝ }
 {
     let b = pads_of(c);
     let points = b.points;
@@ -30,7 +30,7 @@ pub(crate) fn split_at_pads(g: Grown, c: Component) -> Grown
 // The component goes in, whether it touches another or not: who places it asks first.
 pub fn place(ws: Wires, cs: Components, c: Component) -> Made
     requires { ⌜ Sound ws cs × PartFits c ⌝ }
-    ensures { λ r. ⌜ r ≡ made (quiet (Edits.place c (sheetOf ws cs))) ⌝ }
+    ensures { λ r. ⌜ r ≡ made (quiet (Edits.placeOne c (sheetOf ws cs))) ⌝ }
 {
     if cs.count >= 128 {
         return no_room();

@@ -7,18 +7,22 @@ use mathlib.Core.Bool.{Bool, not, _&&_}
 use lib.IntN.{ℤ, pos, negsuc, negℤ, natAbs, _+ℤ_, _*ℤ_, zero-*ℤ}
 use lib.Dec.{T, leb, ltb, ltb→lt, leb→le, lit≤, lit<}
 use lib.Pow.{pow-add, pow-pos}
-use lib.Ieee.{Float, nan, inf, fin, binary32, up, down, round, ofInt}
+use lib.Ieee.{Float, nan, inf, fin, binary32, add, up, down, round, ofInt}
 use lib.Ieee.Exact.{round-exact}
 use Rattle.lists.proofs.Tests.{both-l, both-r}
 use Rattle.edge.proofs.Whole.{one-times, minus-times, row-plus-left, row-minus-left, row-plus-right, row-minus-right, size-neg}
 use Rattle.orientation.specs.Rows.{Row, plus-x, minus-x, plus-y, minus-y}
-use Rattle.float.specs.Drawn.{drawnOf}
+use Rattle.float.specs.Drawn.{turned}
 use Rattle.float.specs.Close.{unit, signed, scale, whole-units, tame, exact, sumOf, near, negative-zero, Close, ClosePosition}
 use Rattle.float.proofs.Signed.{signed-size}
 use Rattle.float.proofs.Rounded.{rounded, rounded-near, rounded-whole}
 use Rattle.float.proofs.Sums.{Has, Held, add-has}
 use Rattle.float.proofs.Products.{mul-has, add-position}
 use Rattle.float.proofs.Units.{units, units-add, units-row, size-units, sum-small}
+
+-- a drawn coordinate: turned, then "+ the position"
+abbrev pub drawnOf : ℤ → ℤ → Float → Float → ℤ → Float
+drawnOf a b x y p = add binary32 (turned a b x y) (ofInt binary32 p)
 
 -- ---- the format holds Z units, of which there are at most 256
 

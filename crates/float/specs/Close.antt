@@ -21,6 +21,7 @@ abbrev pub scale : ℤ → ℕ
 scale (pos k) = 24 + k
 scale (negsuc k) = 23 - k
 
+-- 2 ^ e is a whole number of units
 abbrev pub whole-units : ℤ → Bool
 whole-units (pos k) = true
 whole-units (negsuc k) = ltb k 24
@@ -48,6 +49,7 @@ near nan E = false
 near (inf s) E = false
 near (fin s m e) E = leb (natAbs (signed s (m * up e * unit) -ℤ E *ℤ pos (down e)) * 4096) (unit * down e)
 
+-- −0
 unfoldable pub negative-zero : Float → Bool
 negative-zero nan = false
 negative-zero (inf s) = false

@@ -17,7 +17,8 @@ use Rattle.symbol.specs.declared.Point.{Point}
 use Rattle.sheet.specs.declared.Joint.{Joint}
 use Rattle.sheet.specs.declared.Joints.{Joints}
 use Rattle.sheet.specs.Points.{Rise}
-use Rattle.sheet.specs.Joints.{place, number, Rising, Listed}
+use Rattle.sheet.specs.Joints.{place, number, Rising}
+use Rattle.sheet.specs.Rules.{Rule6}
 use Rattle.sheet.specs.Drawings.{zeroJoint, jointRows}
 use Rattle.sheet.proofs.Points.{same-reads, rise-self}
 use Rattle.sheet.proofs.Numbers.{number-in, number-append, number-length}
@@ -121,7 +122,7 @@ pub agree-end : {rows : List Joint} {counts : List ℕ} {i : ℕ} (n : ℕ) → 
 agree-end {rows} {counts} n g e = subst (λ (k : ℕ). CountsAgree rows k counts) e g
 
 -- rows that rise, were met by all points, and tell what was counted, list the points
-pub met-listed : (js : Joints) {ps : List Point} {counts : List ℕ} → js .count ≤ 1408 → length (js .rows) ≡ 1408 → Rising (jointRows js) → MetBy ps (map place (jointRows js)) counts → CountsAgree (js .rows) (js .count) counts → Listed (jointRows js) ps
+pub met-listed : (js : Joints) {ps : List Point} {counts : List ℕ} → js .count ≤ 1408 → length (js .rows) ≡ 1408 → Rising (jointRows js) → MetBy ps (map place (jointRows js)) counts → CountsAgree (js .rows) (js .count) counts → Rule6 (jointRows js) ps
 met-listed js {ps} {counts} few long o m g = record {
   once = rows-all o (λ i j a b l e. rise-self (subst (Rise (place i)) (sym e) l));
   all = λ p n. let t = ∈-of-map place (jointRows js) (m .met p n) in (t .0, t .1, t .2);

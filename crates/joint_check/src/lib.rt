@@ -6,7 +6,8 @@ ghost use mathlib.Core.List.{map};
 ghost use Prim.Native.Nat.{_≤_};
 ghost use lib.Dec.{eqb};
 ghost use Rattle.sheet.specs.Lines.{marks};
-ghost use Rattle.sheet.specs.Joints.{place, Rising, Listed};
+ghost use Rattle.sheet.specs.Joints.{place, Rising};
+ghost use Rattle.sheet.specs.Rules.{Rule6};
 ghost use Rattle.sheet.specs.Drawings.{wireRows, jointRows};
 ghost use Rattle.wires.specs.Tables.{pointRows};
 ghost use Rattle.joints.specs.Keys.{spot};
@@ -92,7 +93,7 @@ fn counts_agree(js: Joints, counts: [u16; 1408]) -> bool
 // Only rows that list each point with a wire end or pad once, with the number of both, and nothing else, pass.
 pub fn joints_listed(js: Joints, ws: Wires, pads: Points) -> bool
     requires { ⌜ (js .count ≤ 1408) × (Rising (jointRows js) × ((ws .count ≤ 512) × (pads .count ≤ 384))) ⌝ }
-    ensures { λ r. ⌜ (r ≡ true → Listed (jointRows js) (marks (wireRows ws) (pointRows pads))) ⌝ }
+    ensures { λ r. ⌜ (r ≡ true → Rule6 (jointRows js) (marks (wireRows ws) (pointRows pads))) ⌝ }
 {
     let ks = mark_keys(ws, pads);
     let met = count_met(js, ks);

@@ -22,6 +22,7 @@ padded (suc n) (b ∷ bs) = b ∷ padded n bs
 abbrev pub given : Label → List ℕ
 given l = take (l .length) (l .bytes)
 
+-- the label of some bytes
 unfoldable pub labelOf : List ℕ → Label
 labelOf s = record { bytes = padded 16 s; length = length s }
 
@@ -30,11 +31,13 @@ abbrev pub judged : Bool → List ℕ → Held
 judged true bs = record { reply = 0; bytes = padded 16 bs }
 judged false bs = record { reply = 5; bytes = padded 16 [] }
 
+-- the label as rows hold it, or 5
 unfoldable pub heldLabel : Label → Held
 heldLabel l = judged (leb (l .length) 16 && all graphic (given l)) (given l)
 
 -- ---- a label as rows hold it
 
+-- "zeros behind"
 abbrev pub allZero : List ℕ → Bool
 allZero bs = all (λ b. eqb b 0) bs
 

@@ -5,7 +5,8 @@ use mathlib.Core.List.{List, List·Memᴰ·head as ∈-head, List·Memᴰ·tail 
 use mathlib.Core.Path.{_≡_, refl}
 use mathlib.Core.Logic.{_⊎_, inl, inr}
 use lib.Dec.{T}
-use Rattle.lists.specs.Lists.{Rows, Chain, empty, single, link, links}
+use Rattle.lists.specs.Lists.{Rows, links}
+use Rattle.lists.proofs.Adjacent.{Adjacent, empty, single, link}
 use Rattle.lists.proofs.Tests.{Reads, holds, reads-as, and-reads, or-reads, eqb-reads, leb-reads, ltb-reads, beq-reads}
 use Rattle.lists.proofs.Lists.{links-reads, rows-all, chain-rows}
 use Rattle.sheet.specs.declared.Wire.{Wire}
@@ -32,7 +33,7 @@ before-reads a b = reads-as (into, out) (or-reads
     out (next-line d l) = inr (d, inl l)
     out (same-line d l s) = inr (d, inr (l, s))
 
-chain-fits : {ws : List Wire} → AllFit ws → Chain Before ws → Chain (λ a b. Fits b × Before a b) ws
+chain-fits : {ws : List Wire} → AllFit ws → Adjacent Before ws → Adjacent (λ a b. Fits b × Before a b) ws
 chain-fits f empty = empty
 chain-fits f single = single
 chain-fits f (link {x} {y} p c) = link (f y (∈-tail (∈-head refl)), p) (chain-fits (λ w m. f w (∈-tail m)) c)

@@ -3,16 +3,17 @@
 use mathlib.Core.Bool.{Bool}
 use mathlib.Core.List.{List, _∷_, List·Memᴰ·not-nil as ∈-nil}
 use mathlib.Core.Path.{_≡_, sym, ap, subst, _∙_}
-use Rattle.lists.specs.Lists.{_∈_, Rows, Chain, empty, single, link}
+use Rattle.lists.specs.Lists.{_∈_, Rows}
+use Rattle.lists.proofs.Adjacent.{Adjacent, empty, single, link}
 use Rattle.lists.proofs.Tests.{stable}
 use Rattle.lists.proofs.Lists.{in-cons}
 use Rattle.symbol.specs.declared.Point.{Point}
 use Rattle.sheet.specs.declared.Wire.{Wire}
 use Rattle.sheet.specs.declared.Joint.{Joint}
 use Rattle.sheet.specs.Lines.{point, tip, low, high, marks, Inside, Follows, Before}
-use Rattle.sheet.specs.Joints.{place, number, jointsOf, Listed}
-use Rattle.sheet.specs.Wiring.{AllFit, Held}
-use Rattle.sheet.specs.Rules.{Rule2}
+use Rattle.sheet.specs.Joints.{place, number, jointsOf}
+use Rattle.sheet.specs.Wiring.{AllFit, HeldApart}
+use Rattle.sheet.specs.Rules.{Rule6, Rule2}
 use Rattle.sheet.proofs.Held.{held-reads}
 use Rattle.sheet.proofs.Rule4.{count-two}
 use Rattle.sheet.proofs.JointRows.{joints-listed}
@@ -25,18 +26,18 @@ run-clear : {v : Bool} {js : List Joint} {a : Wire} {ws : List Wire} → Run v j
 run-clear done w m = absurd (∈-nil m)
 run-clear {v} {js} (more {a} c r) w m = in-cons (λ (w : Wire). w .vertical ≡ v → (b : Wire) × Clear js b w) (λ d. (a, c d)) (λ z n d. run-clear r z n d) m
 
-run-chain : {v : Bool} {js : List Joint} {a : Wire} {ws : List Wire} → Run v js a ws → Chain (λ a w. w .vertical ≡ v → Clear js a w) (a ∷ ws)
+run-chain : {v : Bool} {js : List Joint} {a : Wire} {ws : List Wire} → Run v js a ws → Adjacent (λ a w. w .vertical ≡ v → Clear js a w) (a ∷ ws)
 run-chain done = single
 run-chain (more c r) = link c (run-chain r)
 
-behind : {R : Wire → Wire → Type 0} {a : Wire} {ws : List Wire} → Chain R (a ∷ ws) → Chain R ws
+behind : {R : Wire → Wire → Type 0} {a : Wire} {ws : List Wire} → Adjacent R (a ∷ ws) → Adjacent R ws
 behind single = empty
 behind (link p c) = c
 
 -- the joints are those of the wire ends and pads, and each wire of the direction is clear
 module _ {ws : List Wire} (ps : List Point) (v : Bool) {js : List Joint} (e : js ≡ jointsOf (marks ws ps)) (runs : Runs v js ws) where
-  listed : Listed js (marks ws ps)
-  listed = subst (λ (l : List Joint). Listed l (marks ws ps)) (sym e) (joints-listed (marks ws ps))
+  listed : Rule6 js (marks ws ps)
+  listed = subst (λ (l : List Joint). Rule6 l (marks ws ps)) (sym e) (joints-listed (marks ws ps))
 
   -- rule 3 of a wire of the direction
   pub none-inside : (p : Point) → p ∈ marks ws ps → (w : Wire) → w ∈ ws → w .vertical ≡ v → Inside p w → ⊥
@@ -46,7 +47,7 @@ module _ {ws : List Wire} (ps : List Point) (v : Bool) {js : List Joint} (e : js
 
   module _ (fits : AllFit ws) (two : Rule2 ws) (order : Rows Before ws) where
     -- rule 4 where a wire of the direction goes on in line
-    pub held-apart : (a b : Wire) → a ∈ ws → b ∈ ws → Follows a b → a .vertical ≡ v → Held ws ps (a .vertical) (tip high a)
+    pub held-apart : (a b : Wire) → a ∈ ws → b ∈ ws → Follows a b → a .vertical ≡ v → HeldApart ws ps (a .vertical) (tip high a)
     held-apart a b m n f d = stable (held-reads ws ps (a .vertical) (tip high a)) (λ g.
         let c : Clear js a b = follows-next order fits (behind (run-chain (runs .each))) a b m n f (sym (f .dir) ∙ d) in
         let meet : tip low b ≡ tip high a = λ k. point (sym (f .dir) k) (sym (f .line) k) (sym (f .place) k) in

@@ -17,7 +17,7 @@ use Rattle.sheet.specs.Points.{rises}
 use Rattle.sheet.specs.Joints.{place, jointsOf, Rising}
 use Rattle.sheet.specs.Parts.{position, padsOf, ahead}
 use Rattle.sheet.specs.Drawings.{Sheet, wireRows, jointRows, listsOf, marksOf, Sized}
-use Rattle.sheet.specs.Wiring.{AllFit, Held, Wired}
+use Rattle.sheet.specs.Wiring.{AllFit, HeldApart, Wired}
 use Rattle.sheet.specs.Rules.{Rule2, Rule3, Rule5, Lawful}
 use Rattle.sheet.proofs.Points.{rises-reads, rise-chain}
 use Rattle.sheet.proofs.JointRows.{rules-6-7, joints-rising}
@@ -52,8 +52,8 @@ wired {ws} ps {js} fits t e level up = record { clean = record { fits = fits; or
     clear : Rule3 ws ps
     clear p m w n i = either (w .vertical) (λ v. w .vertical ≡ v → ⊥) (λ d. none-inside ps false e level p m w n d i) (λ d. none-inside ps true e up p m w n d i) refl
 
-    anchored : (a b : Wire) → a ∈ ws → b ∈ ws → Follows a b → Held ws ps (a .vertical) (tip high a)
-    anchored a b m n g = either (a .vertical) (λ v. a .vertical ≡ v → Held ws ps (a .vertical) (tip high a)) (held-apart ps false e level fits two order a b m n g) (held-apart ps true e up fits two order a b m n g) refl
+    anchored : (a b : Wire) → a ∈ ws → b ∈ ws → Follows a b → HeldApart ws ps (a .vertical) (tip high a)
+    anchored a b m n g = either (a .vertical) (λ v. a .vertical ≡ v → HeldApart ws ps (a .vertical) (tip high a)) (held-apart ps false e level fits two order a b m n g) (held-apart ps true e up fits two order a b m n g) refl
 
 -- what the looks at the wires answer
 module _ (ws : Wires) (pads : Points) (js : Joints) (e : jointRows js ≡ jointsOf (marks (wireRows ws) (pointRows pads))) where

@@ -1,4 +1,4 @@
--- The steps of `hold` and `feed`, and that holding 81 bytes is taking the first 81 of the line.
+-- The steps of `hold` and `bring`, and that holding 81 bytes is taking the first 81 of the line.
 use mathlib.Core.Path.{_≡_}
 use mathlib.Core.Logic.{⊎-elim}
 use mathlib.Core.List.{List, [], _∷_, _++_}
@@ -10,7 +10,7 @@ use lib.ListN.{length, getD, take, drop, set, drop-of-length-le, length-append}
 use lib.Seq.{drop-cons, take-suc-set, take-all, take-append-le, length-take-le}
 use Rattle.lists.proofs.Tests.{decide, ltb-reads}
 use Rattle.lines.specs.Lines.{newline}
-use Rattle.lines.specs.Chunks.{hold, line, more, feed}
+use Rattle.lines.specs.Chunks.{hold, line, more, bring}
 
 module _ (l : List ℕ) (n b : ℕ) (room : 81 ≤ length l) where
   pub push-more : n < 81 → take (n + 1) (set l n b) ≡ hold (take n l) b
@@ -26,16 +26,16 @@ module _ (l : List ℕ) (n b : ℕ) (room : 81 ≤ length l) where
       rw (le-ltb _ _ t)
 
 module _ (held l : List ℕ) (i : ℕ) where
-  pub feed-newline : i < length l → getD l i 0 ≡ newline → feed held (drop i l) ≡ line held (drop (i + 1) l)
-  unfolding feed
+  pub feed-newline : i < length l → getD l i 0 ≡ newline → bring held (drop i l) ≡ line held (drop (i + 1) l)
+  unfolding bring
   feed-newline h b = rw (drop-cons l i 0 h, add-one, eq-eqb _ _ b)
 
-  pub feed-byte : i < length l → (getD l i 0 ≡ newline → ⊥) → feed held (drop i l) ≡ feed (hold held (getD l i 0)) (drop (i + 1) l)
-  unfolding feed
+  pub feed-byte : i < length l → (getD l i 0 ≡ newline → ⊥) → bring held (drop i l) ≡ bring (hold held (getD l i 0)) (drop (i + 1) l)
+  unfolding bring
   feed-byte h b = rw (drop-cons l i 0 h, add-one, ne-eqb _ _ b)
 
-  pub feed-end : length l ≤ i → feed held (drop i l) ≡ more held
-  unfolding feed
+  pub feed-end : length l ≤ i → bring held (drop i l) ≡ more held
+  unfolding bring
   feed-end h = rw (drop-of-length-le l h)
 
 -- a byte more of a line, and of its first 81 bytes

@@ -8,7 +8,7 @@ use lib.Seq.{length-take-le}
 use Rattle.lists.proofs.Tests.{clash}
 use Rattle.lines.specs.declared.Cut.{Cut}
 use Rattle.lines.specs.declared.Cut.the-variants.{Line, More}
-use Rattle.lines.specs.Chunks.{fed, Within, Next}
+use Rattle.lines.specs.Chunks.{brought, CutFits, Next}
 
 same-count : {k k′ : ℕ} (l l′ : List ℕ) → k ≤ length l → k′ ≤ length l′ → take k l ≡ take k′ l′ → k ≡ k′
 same-count {k} {k′} l l′ h h′ e = omega (arith, length-take-le k l h, length-take-le k′ l′ h′, ap length e)
@@ -17,7 +17,7 @@ same-rest : {i i′ : ℕ} (l : List ℕ) → i ≤ length l → i′ ≤ length
 same-rest {i} {i′} l h h′ e = omega (arith, length-drop i l, length-drop i′ l, ap length e)
 
 module _ (chunk held held′ : List ℕ) (at : ℕ) (room : 81 ≤ length held) (room′ : 81 ≤ length held′) where
-  same-answer : (r r′ : Cut) → fed r held chunk ≡ fed r′ held′ chunk → Within at (length chunk) r → Within at (length chunk) r′ → r ≡ r′
+  same-answer : (r r′ : Cut) → brought r held chunk ≡ brought r′ held′ chunk → CutFits at (length chunk) r → CutFits at (length chunk) r′ → r ≡ r′
   same-answer (Line k i) (Line k′ i′) e w w′ =
       let bytes : take k held ≡ take k′ held′ = cc in
       let rest : drop i chunk ≡ drop i′ chunk = cc in

@@ -7,20 +7,20 @@ use native.Mathlib.Omega.{arith}
 use lib.ListN.{length, take, drop}
 use Rattle.lines.specs.declared.Cut.{Cut}
 use Rattle.lines.specs.declared.Cut.the-variants.{Line, More}
-use Rattle.lines.specs.Chunks.{Next, Within}
-use Rattle.lines.specs.Runs.{ran, run}
+use Rattle.lines.specs.Chunks.{Next, CutFits}
+use Rattle.lines.specs.Runs.{ran, throughChunk}
 use Rattle.lines.proofs.Runs.{run-line, run-more, run-end}
 
 module _ {S : Type 0} (step : S → List ℕ → S) (chunk held₀ : List ℕ) (count₀ : ℕ) (x₀ : S) where
   pub record Running (held : List ℕ) (at count : ℕ) (x : S) : Type 0 where
-    pub left : run step x (take count held) (drop at chunk) ≡ run step x₀ (take count₀ held₀) chunk
+    pub left : throughChunk step x (take count held) (drop at chunk) ≡ throughChunk step x₀ (take count₀ held₀) chunk
     pub inside : at ≤ length chunk
     pub few : count ≤ 81
     pub long : length held ≡ length held₀
 
   -- the run of the chunk is done: the state, and the bytes held
   pub record Done (held : List ℕ) (count : ℕ) (x : S) : Type 0 where
-    pub whole : ran x (take count held) ≡ run step x₀ (take count₀ held₀) chunk
+    pub whole : ran x (take count held) ≡ throughChunk step x₀ (take count₀ held₀) chunk
     pub few : count ≤ 81
     pub long : length held ≡ length held₀
 
@@ -34,7 +34,7 @@ module _ {S : Type 0} (step : S → List ℕ → S) (chunk held₀ : List ℕ) (
     module _ {a : Cut} {held′ : List ℕ} (n : Next chunk at held count a held′) where
       pub on-line : {k next : ℕ} {y : S} → a ≡ Line k next → y ≡ step x (take k held′) → Running held′ next 0 y
       on-line {k} {next} {y} e s =
-          let w : Within at (length chunk) (Line k next) = rw e at n .within in
+          let w : CutFits at (length chunk) (Line k next) = rw e at n .within in
           record {
             left = rw s (run-line step x (take count held) (drop at chunk) (rw e at n .told) ∙ r .left);
             inside = w .2;
@@ -51,7 +51,7 @@ module _ {S : Type 0} (step : S → List ℕ → S) (chunk held₀ : List ℕ) (
 
       -- the bytes of a line are there to be read, and less of the chunk is left
       pub line-there : {k next : ℕ} → a ≡ Line k next → 81 ≤ length held₀ → k ≤ length held′
-      line-there {k} {next} e room = let w : Within at (length chunk) (Line k next) = rw e at n .within in omega (arith, n .long, r .long)
+      line-there {k} {next} e room = let w : CutFits at (length chunk) (Line k next) = rw e at n .within in omega (arith, n .long, r .long)
 
       pub line-less : {k next : ℕ} → a ≡ Line k next → length chunk - next < length chunk - at
-      line-less {k} {next} e = let w : Within at (length chunk) (Line k next) = rw e at n .within in omega arith
+      line-less {k} {next} e = let w : CutFits at (length chunk) (Line k next) = rw e at n .within in omega arith

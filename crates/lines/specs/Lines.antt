@@ -8,6 +8,7 @@ use Prim.Native.Char.{code}
 use lib.ListN.{length}
 use lib.Dec.{eqb}
 
+-- the byte that ends a line
 abbrev pub newline : ℕ
 newline = code "\n"
 
@@ -28,5 +29,6 @@ linesFrom [] [] = []
 linesFrom (c ∷ begun) [] = (c ∷ begun) ∷ []
 linesFrom begun (b ∷ s) = cond (eqb b newline) (begun ∷ linesFrom [] s) (linesFrom (begun ++ (b ∷ [])) s)
 
+-- the lines of an input
 unfoldable pub linesOf : List ℕ → List (List ℕ)
 linesOf s = linesFrom [] s

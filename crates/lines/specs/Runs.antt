@@ -1,4 +1,5 @@
--- A state taken through the lines of an input, by any step over any type of states: by the lines at once, and chunk by chunk.
+-- "reads a script on standard input": a state taken through the lines of an input, by any step over any type of states: by the lines at
+-- once, and chunk by chunk.
 use mathlib.Core.Bool.{cond}
 use mathlib.Core.List.{List, [], _∷_, _++_}
 use Prim.Native.Nat.{ℕ}
@@ -22,14 +23,15 @@ module _ {S : Type 0} (step : S → List ℕ → S) where
   through x (l ∷ ls) = through (step x l) ls
 
   -- a chunk, behind the bytes held
-  unfoldable pub run : S → List ℕ → List ℕ → Ran S
-  run x held [] = ran x held
-  run x held (b ∷ s) = cond (eqb b newline) (run (step x held) [] s) (run x (hold held b) s)
+  unfoldable pub throughChunk : S → List ℕ → List ℕ → Ran S
+  throughChunk x held [] = ran x held
+  throughChunk x held (b ∷ s) = cond (eqb b newline) (throughChunk (step x held) [] s) (throughChunk x (hold held b) s)
 
-  -- chunk after chunk
+  -- a chunk more
   abbrev pub next : Ran S → List ℕ → Ran S
-  next (ran x held) s = run x held s
+  next (ran x held) s = throughChunk x held s
 
+  -- the chunks one after the other
   unfoldable pub chunks : Ran S → List (List ℕ) → Ran S
   chunks r [] = r
   chunks r (s ∷ ss) = chunks (next r s) ss

@@ -1,4 +1,5 @@
 pub mod Tests
+pub mod Adjacent
 pub mod Lists
 pub mod Tables
 pub mod Walks

@@ -6,7 +6,8 @@ use mathlib.Core.Path.{_≡_, refl, sym, subst, ap, ap₂, _∙_}
 use mathlib.Core.Logic.{⊎-elim, _⊎_, inl, inr}
 use native.Mathlib.Omega.{arith}
 use lib.ListN.{length, length-append}
-use Rattle.lists.specs.Lists.{_∈_, Rows, none, more, Chain, empty, single, link, any, all, pairs, links, keep, insert, insertAll, gather}
+use Rattle.lists.specs.Lists.{_∈_, Rows, none, more, any, all, pairs, links, keep, insert, gather}
+use Rattle.lists.proofs.Adjacent.{Adjacent, empty, single, link}
 use Rattle.lists.proofs.Tests.{Reads, pass, fail, test, choose, reads-as, and-reads, or-reads}
 
 module _ {A : Type 0} where
@@ -73,13 +74,13 @@ module _ {A : Type 0} where
       out : Rows R (x ∷ xs) → ((y : A) → y ∈ xs → R x y) × Rows R xs
       out (more h s) = (h, s)
 
-  pub links-reads : {R : A → A → Type 0} {f : A → A → Bool} → ((x y : A) → Reads (R x y) (f x y)) → (xs : List A) → Reads (Chain R xs) (links f xs)
+  pub links-reads : {R : A → A → Type 0} {f : A → A → Bool} → ((x y : A) → Reads (R x y) (f x y)) → (xs : List A) → Reads (Adjacent R xs) (links f xs)
   unfolding links
   links-reads r [] = pass empty
   links-reads r (x ∷ []) = pass single
   links-reads {R} r (x ∷ (y ∷ ys)) = reads-as (λ t. link (t .0) (t .1), out) (and-reads (r x y) (links-reads r (y ∷ ys)))
     where
-      out : Chain R (x ∷ y ∷ ys) → R x y × Chain R (y ∷ ys)
+      out : Adjacent R (x ∷ y ∷ ys) → R x y × Adjacent R (y ∷ ys)
       out (link p c) = (p, c)
 
   -- ---- insertion and gathering
@@ -106,6 +107,11 @@ module _ {A : Type 0} where
 
   pub insert-old : (f : A → A → Bool) (x : A) {ys : List A} {z : A} → z ∈ ys → z ∈ insert f x ys
   insert-old f x {ys} m = in-insert f x ys (inr m)
+
+  -- each row of the first list goes into the second
+  unfoldable pub insertAll : (A → A → Bool) → List A → List A → List A
+  insertAll f [] ys = ys
+  insertAll f (x ∷ xs) ys = insert f x (insertAll f xs ys)
 
   pub insert-all-in : (f : A → A → Bool) (xs ys : List A) {z : A} → z ∈ insertAll f xs ys → (z ∈ xs) ⊎ (z ∈ ys)
   unfolding insertAll
@@ -237,12 +243,12 @@ module _ {A : Type 0} where
     rows-both (more {x} h s) (more k t) f = more (λ y m. f x y (∈-head refl) (∈-tail m) (h y m) (k y m)) (rows-both s t (λ y z m n. f y z (∈-tail m) (∈-tail n)))
 
     -- neighbours in order are rows in order
-    pub rows-chain : {xs : List A} → Rows R xs → Chain R xs
+    pub rows-chain : {xs : List A} → Rows R xs → Adjacent R xs
     rows-chain none = empty
     rows-chain (more h none) = single
     rows-chain (more h (more {x = y} k s)) = link (h y (∈-head refl)) (rows-chain (more k s))
 
-    pub chain-rows : ((x y z : A) → R x y → R y z → R x z) → {xs : List A} → Chain R xs → Rows R xs
+    pub chain-rows : ((x y z : A) → R x y → R y z → R x z) → {xs : List A} → Adjacent R xs → Rows R xs
     chain-rows trans empty = none
     chain-rows trans single = rows-one
     chain-rows trans (link {x} {y} p c) = let s = chain-rows trans c in more (λ z m. in-cons (R x) p (λ w n. trans x y w p (rows-head s w n)) m) s

@@ -10,10 +10,14 @@ use lib.ListN.{length, getD, take, drop, set, replicate, length-append, take-app
 use lib.Seq.{take-at, drop-at, getD-at, set-append-left, append-snoc, drop-cons, length-take-le, take-suc-set, take-set-lt, take-append-le, getD-take, drop-append-add}
 use Rattle.lists.specs.Lists.{insert}
 use Rattle.lists.specs.Tables.{pad, Holds}
-use Rattle.lists.specs.Places.{span, insertAt}
+use Rattle.lists.specs.Places.{span}
 use Rattle.lists.proofs.Tables.{length-pad, holds-as}
 
 module _ {A : Type 0} where
+  -- x put in before the row at p
+  unfoldable pub insertAt : ℕ → A → List A → List A
+  insertAt p x xs = take p xs ++ x ∷ drop p xs
+
   pub span-le : (f : A → Bool) (xs : List A) → span f xs ≤ length xs
   unfolding span
   span-le f [] = omega arith

@@ -1,4 +1,4 @@
--- A table: so many rows, of which the first are in use and the others are all zero.
+-- A table: so many rows, of which the first are in use; "rows beyond the counts are all zero".
 use Prim.Native.Nat.{ℕ, _-_, _≤_}
 use mathlib.Core.Path.{_≡_}
 use mathlib.Core.List.{List, _++_}

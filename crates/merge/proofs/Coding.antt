@@ -16,10 +16,10 @@ use Rattle.lists.proofs.Somes.{any-as, any-never, any-gather, any-map}
 use Rattle.sheet.specs.declared.Wire.{Wire}
 use Rattle.sheet.specs.Points.{same}
 use Rattle.sheet.specs.Lines.{low, high, tip}
-use Rattle.sheet.specs.Merge.{held}
+use Rattle.sheet.specs.Merge.{heldApart}
 use Rattle.sheet.proofs.Points.{same-reads}
 use Rattle.merge.specs.declared.Numbers.{Numbers}
-use Rattle.merge.specs.Codes.{Mark, kindOf, mark, endMarks, marksOf, codeOf, Small, Coded, numberRows}
+use Rattle.merge.specs.Codes.{Mark, kindOf, mark, endMarks, marksWithKind, codeOf, Codable, Coded, numberRows}
 
 -- ---- the table of numbers
 
@@ -27,8 +27,8 @@ pub coded-none : Coded [] []
 coded-none = record { are = refl; small = λ m k. absurd (∈-nil k) }
 
 -- the number of a mark, where its kind and its point are known by other names
-pub coded-as : {k l x : ℕ} {p q : Point} → (x ≡ codeOf (mark k p)) × Small (mark k p) → k ≡ l → p ≡ q → (x ≡ codeOf (mark l q)) × Small (mark l q)
-coded-as {x = x} t e f = subst (λ (m : Mark). (x ≡ codeOf m) × Small m) (λ i. mark (e i) (f i)) t
+pub coded-as : {k l x : ℕ} {p q : Point} → (x ≡ codeOf (mark k p)) × Codable (mark k p) → k ≡ l → p ≡ q → (x ≡ codeOf (mark l q)) × Codable (mark l q)
+coded-as {x = x} t e f = subst (λ (m : Mark). (x ≡ codeOf m) × Codable m) (λ i. mark (e i) (f i)) t
 
 map-append : (ms ns : List Mark) → map codeOf (ms ++ ns) ≡ map codeOf ms ++ map codeOf ns
 map-append [] ns = refl
@@ -38,14 +38,14 @@ map-append (m ∷ ms) ns = ap (λ (l : List ℕ). codeOf m ∷ l) (map-append ms
 coded-append : {ms ns : List Mark} {cs ds : List ℕ} → Coded ms cs → Coded ns ds → Coded (ms ++ ns) (cs ++ ds)
 coded-append {ms} {ns} a b = record { are = (λ i. a .are i ++ b .are i) ∙ sym (map-append ms ns); small = λ m k. ⊎-elim (a .small m) (b .small m) (∈-append ms k) }
 
-coded-more : {ms : List Mark} {cs : List ℕ} (a : Mark) {x : ℕ} → (x ≡ codeOf a) × Small a → Coded ms cs → Coded (a ∷ ms) (x ∷ cs)
-coded-more a s c = record { are = λ i. s .0 i ∷ c .are i; small = λ m k. in-cons Small (s .1) (c .small) k }
+coded-more : {ms : List Mark} {cs : List ℕ} (a : Mark) {x : ℕ} → (x ≡ codeOf a) × Codable a → Coded ms cs → Coded (a ∷ ms) (x ∷ cs)
+coded-more a s c = record { are = λ i. s .0 i ∷ c .are i; small = λ m k. in-cons Codable (s .1) (c .small) k }
 
 module _ {ms : List Mark} (t : Numbers) (c : Coded ms (numberRows t)) where
-  pub coded-one : (a : Mark) {x : ℕ} → (x ≡ codeOf a) × Small a → t .count < length (t .rows) → Coded (ms ++ (a ∷ [])) (take (t .count + 1) (set (t .rows) (t .count) x))
+  pub coded-one : (a : Mark) {x : ℕ} → (x ≡ codeOf a) × Codable a → t .count < length (t .rows) → Coded (ms ++ (a ∷ [])) (take (t .count + 1) (set (t .rows) (t .count) x))
   coded-one a {x} s h = subst (Coded (ms ++ (a ∷ []))) (sym (take-push (t .rows) (t .count) x h)) (coded-append c (coded-more a s coded-none))
 
-  pub coded-two : (a b : Mark) {x y : ℕ} → (x ≡ codeOf a) × Small a → (y ≡ codeOf b) × Small b → t .count + 1 < length (t .rows) → Coded (ms ++ (a ∷ b ∷ [])) (take (t .count + 2) (set (set (t .rows) (t .count) x) (t .count + 1) y))
+  pub coded-two : (a b : Mark) {x y : ℕ} → (x ≡ codeOf a) × Codable a → (y ≡ codeOf b) × Codable b → t .count + 1 < length (t .rows) → Coded (ms ++ (a ∷ b ∷ [])) (take (t .count + 2) (set (set (t .rows) (t .count) x) (t .count + 1) y))
   coded-two a b {x} {y} s u h = subst (Coded (ms ++ (a ∷ b ∷ []))) (sym (take-push-two (t .rows) (t .count) x y h)) (coded-append c (coded-more a s (coded-more b u coded-none)))
 
 -- ---- a mark among others
@@ -53,7 +53,7 @@ module _ {ms : List Mark} (t : Numbers) (c : Coded ms (numberRows t)) where
 abbrev is : Mark → Mark → Bool
 is a m = eqb (a .kind) (m .kind) && same (a .point) (m .point)
 
-code-is : (a m : Mark) → Small a → Small m → eqb (codeOf a) (codeOf m) ≡ is a m
+code-is : (a m : Mark) → Codable a → Codable m → eqb (codeOf a) (codeOf m) ≡ is a m
 unfolding codeOf
 code-is a m s t = same-test (eqb-reads (codeOf a) (codeOf m)) (reads-as (to, from) (and-reads (eqb-reads (a .kind) (m .kind)) (same-reads (a .point) (m .point))))
   where
@@ -67,7 +67,7 @@ code-is a m s t = same-test (eqb-reads (codeOf a) (codeOf m)) (reads-as (to, fro
         let y : a .point .y ≡ m .point .y = omega (arith, s .x, s .y, t .x, t .y) in
         (k, λ i. record { x = x i; y = y i })
 
-any-code : (a : Mark) (ms : List Mark) → Small a → ((m : Mark) → m ∈ ms → Small m) → any (eqb (codeOf a)) (map codeOf ms) ≡ any (is a) ms
+any-code : (a : Mark) (ms : List Mark) → Codable a → ((m : Mark) → m ∈ ms → Codable m) → any (eqb (codeOf a)) (map codeOf ms) ≡ any (is a) ms
 unfolding any
 any-code a [] s h = refl
 any-code a (m ∷ ms) s h = λ i. code-is a m s (h m (∈-head refl)) i || any-code a ms s (λ n k. h n (∈-tail k)) i
@@ -96,8 +96,8 @@ no-end p w = step (w .vertical)
     step true = refl
     step false = refl
 
-held-marks : (ws : List Wire) (ps : List Point) (d : Bool) (p : Point) → held ws ps d p ≡ (any (is (mark (kindOf (not d)) p)) (marksOf ws ps) || any (is (mark 2 p)) (marksOf ws ps))
-unfolding held marksOf
+held-marks : (ws : List Wire) (ps : List Point) (d : Bool) (p : Point) → heldApart ws ps d p ≡ (any (is (mark (kindOf (not d)) p)) (marksWithKind ws ps) || any (is (mark 2 p)) (marksWithKind ws ps))
+unfolding heldApart marksWithKind
 held-marks ws ps d p = λ i. sym crossed i || sym padded i
   where
     crossed : any (is (mark (kindOf (not d)) p)) (gather endMarks ws ++ map (mark 2) ps) ≡ any (λ w. Bool·beq (w .vertical) (not d) && (same p (tip low w) || same p (tip high w))) ws
@@ -119,7 +119,7 @@ pub record Behind (t : Numbers) (ms : List Mark) (r : Numbers) : Type 0 where
 pub behind-none : (t : Numbers) → Behind t [] t
 behind-none t = record { so = λ ns c. subst (λ (l : List Mark). Coded l (numberRows t)) (sym (append-nil ns)) c }
 
-pub behind-one : {t : Numbers} {ms : List Mark} (r : Numbers) → Behind t ms r → (a : Mark) {x : ℕ} → (x ≡ codeOf a) × Small a → r .count < length (r .rows)
+pub behind-one : {t : Numbers} {ms : List Mark} (r : Numbers) → Behind t ms r → (a : Mark) {x : ℕ} → (x ≡ codeOf a) × Codable a → r .count < length (r .rows)
     → Behind t (ms ++ (a ∷ [])) (record { rows = set (r .rows) (r .count) x; count = r .count + 1 })
 behind-one {ms = ms} r b a {x} s h = record {
   so = λ ns c. subst (λ (l : List Mark). Coded l (take (r .count + 1) (set (r .rows) (r .count) x))) (append-assoc ns ms (a ∷ [])) (coded-one r (b .so ns c) a s h);
@@ -130,10 +130,10 @@ behind-as {t} {r} e b = subst (λ (l : List Mark). Behind t l r) e b
 
 -- ---- both marks that can hold a wire at its high end, looked up
 
-pub looked-up : (ws : List Wire) (ps : List Point) {cs : List ℕ} {a b : ℕ} {x y : Bool} (w : Wire) → Coded (marksOf ws ps) cs
-    → (a ≡ codeOf (mark (kindOf (not (w .vertical))) (tip high w))) × Small (mark (kindOf (not (w .vertical))) (tip high w)) → (b ≡ codeOf (mark 2 (tip high w))) × Small (mark 2 (tip high w))
-    → x ≡ any (eqb a) cs → y ≡ any (eqb b) cs → (x || y) ≡ held ws ps (w .vertical) (tip high w)
+pub looked-up : (ws : List Wire) (ps : List Point) {cs : List ℕ} {a b : ℕ} {x y : Bool} (w : Wire) → Coded (marksWithKind ws ps) cs
+    → (a ≡ codeOf (mark (kindOf (not (w .vertical))) (tip high w))) × Codable (mark (kindOf (not (w .vertical))) (tip high w)) → (b ≡ codeOf (mark 2 (tip high w))) × Codable (mark 2 (tip high w))
+    → x ≡ any (eqb a) cs → y ≡ any (eqb b) cs → (x || y) ≡ heldApart ws ps (w .vertical) (tip high w)
 looked-up ws ps {cs} {a} {b} {x} {y} w c s t e f =
-    (λ i. (e ∙ (λ j. any (eqb (s .0 j)) (c .are j)) ∙ any-code (mark (kindOf (not (w .vertical))) (tip high w)) (marksOf ws ps) (s .1) (c .small)) i
-    || (f ∙ (λ j. any (eqb (t .0 j)) (c .are j)) ∙ any-code (mark 2 (tip high w)) (marksOf ws ps) (t .1) (c .small)) i)
+    (λ i. (e ∙ (λ j. any (eqb (s .0 j)) (c .are j)) ∙ any-code (mark (kindOf (not (w .vertical))) (tip high w)) (marksWithKind ws ps) (s .1) (c .small)) i
+    || (f ∙ (λ j. any (eqb (t .0 j)) (c .are j)) ∙ any-code (mark 2 (tip high w)) (marksWithKind ws ps) (t .1) (c .small)) i)
     ∙ sym (held-marks ws ps (w .vertical) (tip high w))

@@ -14,8 +14,8 @@ use Rattle.lists.proofs.Walks.{rows-from, Rest, rest-next, rest-end}
 use Rattle.sheet.specs.declared.Wire.{Wire}
 use Rattle.sheet.specs.declared.Wires.{Wires}
 use Rattle.sheet.specs.Lines.{high, tip, point}
-use Rattle.sheet.specs.Merge.{held, joins, join, mergeBy, merge, mergeFrom}
-use Rattle.sheet.proofs.Merge.{merge-forward}
+use Rattle.sheet.specs.Merge.{heldApart, joins, join, mergeBy, merge}
+use Rattle.sheet.proofs.Merge.{mergeFrom, merge-forward}
 use Rattle.wires.specs.Tables.{Tabled}
 use Rattle.merge.specs.Codes.{Flagged}
 
@@ -51,29 +51,29 @@ and-first false y e = absurd (false≢true e)
 pub record Merging (rows : List Wire) (n : ℕ) (ps : List Point) (flags : List Bool) (i : ℕ) (a : Wire) (out : Wires) : Type 0 where
   pub done : List Wire
   pub holding : Tabled done out
-  pub rest : Rest (λ bs. done ++ mergeFrom (held (take n rows) ps) a bs) rows n i (merge (take n rows) ps)
-  pub apart : getD flags (i - 1) false ≡ held (take n rows) ps (a .vertical) (tip high a)
+  pub rest : Rest (λ bs. done ++ mergeFrom (heldApart (take n rows) ps) a bs) rows n i (merge (take n rows) ps)
+  pub apart : getD flags (i - 1) false ≡ heldApart (take n rows) ps (a .vertical) (tip high a)
 
 -- the flag of row i
 flag-at : (rows : List Wire) (n i : ℕ) {ps : List Point} {flags : List Bool} (d : Wire) → Flagged (take n rows) ps flags → i < n → n ≤ length rows
-    → getD flags (i + 1 - 1) false ≡ held (take n rows) ps (getD rows i d .vertical) (tip high (getD rows i d))
+    → getD flags (i + 1 - 1) false ≡ heldApart (take n rows) ps (getD rows i d .vertical) (tip high (getD rows i d))
 flag-at rows n i {ps} {flags} d f h k =
     let same : i + 1 - 1 ≡ i = omega arith in
-    ap (λ (j : ℕ). getD flags j false) same ∙ f .each i d (omega (arith, length-take-le n rows k)) ∙ ap (λ (w : Wire). held (take n rows) ps (w .vertical) (tip high w)) (getD-take n rows i d h)
+    ap (λ (j : ℕ). getD flags j false) same ∙ f .each i d (omega (arith, length-take-le n rows k)) ∙ ap (λ (w : Wire). heldApart (take n rows) ps (w .vertical) (tip high w)) (getD-take n rows i d h)
 
 pub merge-start : (rows : List Wire) (n : ℕ) (ps : List Point) (d : Wire) {flags : List Bool} {out : Wires} → Tabled [] out → Flagged (take n rows) ps flags → 0 < n → n ≤ length rows → Merging rows n ps flags 1 (getD rows 0 d) out
 unfolding merge
 merge-start rows n ps d h f a b = record {
   done = [];
   holding = h;
-  rest = record { same = ap (mergeBy (held (take n rows) ps)) (rows-from rows n 0 d a b) ∙ sym (merge-forward (held (take n rows) ps) (getD rows 0 d) _) };
+  rest = record { same = ap (mergeBy (heldApart (take n rows) ps)) (rows-from rows n 0 d a b) ∙ sym (merge-forward (heldApart (take n rows) ps) (getD rows 0 d) _) };
   apart = flag-at rows n 0 d f a b;
 }
 
 module _ {rows : List Wire} {n i : ℕ} {ps : List Point} {flags : List Bool} {a : Wire} {out : Wires} {x y : Bool} (d : Wire) (m : Merging rows n ps flags i a out) (f : Flagged (take n rows) ps flags)
     (e : x ≡ inLine a (getD rows i d)) (g : y ≡ getD flags (i - 1) false) (l : i < n) (k : n ≤ length rows) where
-  test : (x && not y) ≡ joins (held (take n rows) ps) a (getD rows i d)
-  test = joins-test (held (take n rows) ps) a (getD rows i d) e (g ∙ m .apart)
+  test : (x && not y) ≡ joins (heldApart (take n rows) ps) a (getD rows i d)
+  test = joins-test (heldApart (take n rows) ps) a (getD rows i d) e (g ∙ m .apart)
 
   pub merge-join : (x && not y) ≡ true → Merging rows n ps flags (i + 1) (join a (getD rows i d)) out
   unfolding mergeFrom
@@ -81,7 +81,7 @@ module _ {rows : List Wire} {n i : ℕ} {ps : List Point} {flags : List Bool} {a
     done = m .done;
     holding = m .holding;
     rest = rest-next d (m .rest) (λ bs. rw (sym test ∙ t)) l k;
-    apart = flag-at rows n i d f l k ∙ joined-held (held (take n rows) ps) a (getD rows i d) (sym e ∙ and-first x (not y) t);
+    apart = flag-at rows n i d f l k ∙ joined-held (heldApart (take n rows) ps) a (getD rows i d) (sym e ∙ and-first x (not y) t);
   }
 
   pub merge-push : (x && not y) ≡ false → out .count < 512 → Merging rows n ps flags (i + 1) (getD rows i d) (record { rows = set (out .rows) (out .count) a; count = out .count + 1 })
@@ -89,7 +89,7 @@ module _ {rows : List Wire} {n i : ℕ} {ps : List Point} {flags : List Bool} {a
   merge-push t c = record {
     done = m .done ++ (a ∷ []);
     holding = holds-push a (m .holding) c;
-    rest = rest-next d (m .rest) (λ bs. rw (sym test ∙ t) (sym (append-assoc (m .done) (a ∷ []) (mergeFrom (held (take n rows) ps) (getD rows i d) bs)))) l k;
+    rest = rest-next d (m .rest) (λ bs. rw (sym test ∙ t) (sym (append-assoc (m .done) (a ∷ []) (mergeFrom (heldApart (take n rows) ps) (getD rows i d) bs)))) l k;
     apart = flag-at rows n i d f l k;
   }
 

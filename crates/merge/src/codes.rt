@@ -5,7 +5,7 @@ ghost use Prim.Native.Nat.{_≤_};
 ghost use Rattle.lists.specs.Lists.{gather};
 ghost use Rattle.sheet.specs.Drawings.{wireRows};
 ghost use Rattle.wires.specs.Tables.{pointRows};
-ghost use Rattle.merge.specs.Codes.{Mark, kindOf, mark, endMarks, codeOf, Small, Coded, numberRows};
+ghost use Rattle.merge.specs.Codes.{Mark, kindOf, mark, endMarks, codeOf, Codable, Coded, numberRows};
 use crate::Numbers;
 use sheet::Wires;
 use symbol::Point;
@@ -29,7 +29,7 @@ pub fn kind_of(vertical: bool) -> u64
 // A mark as one number.
 pub fn code(kind: u64, p: Point) -> u64
     requires { ⌜ kind ≤ 2 ⌝ }
-    ensures { λ r. ⌜ (r ≡ codeOf (mark kind p)) × Small (mark kind p) ⌝ }
+    ensures { λ r. ⌜ (r ≡ codeOf (mark kind p)) × Codable (mark kind p) ⌝ }
 {
     wide(p.x) + 65536 * wide(p.y) + 4294967296 * kind
 }

@@ -6,11 +6,11 @@ ghost use lib.ListN.{take};
 ghost use Rattle.symbol.specs.declared.Point.{Point};
 ghost use Rattle.sheet.specs.declared.Wire.{Wire};
 ghost use Rattle.sheet.specs.Lines.{high, tip};
-ghost use Rattle.sheet.specs.Merge.{held};
+ghost use Rattle.sheet.specs.Merge.{heldApart};
 ghost use Rattle.sheet.specs.Drawings.{wireRows};
 ghost use Rattle.wires.specs.Tables.{pointRows};
-ghost use Rattle.merge.specs.Codes.{marksOf, Coded, Flagged};
-ghost use Rattle.chains.specs.Chains.{Chained};
+ghost use Rattle.merge.specs.Codes.{marksWithKind, Coded, Flagged};
+ghost use Rattle.chains.specs.Chains.{Traced};
 use crate::codes::code;
 use crate::codes::end_codes;
 use crate::codes::kind_of;
@@ -24,8 +24,8 @@ use wires::lines::high_tip;
 
 // An end of a wire of the other direction, or a pad, is where the wire ends.
 fn is_held(w: Wire, codes: &[u64; 1408], n: usize, last: &[u16; 4096], before: &[u16; 1408]) -> bool
-    requires { ⌜ (n ≤ 1408) × Chained (λ c. c % 4093) (take n (now codes)) (now last) (now before) ⌝ }
-    ensures { λ r. ⌜ ((ws : List Wire) (ps : List Point) → Coded (marksOf ws ps) (take n (now (codes .entry))) → r ≡ held ws ps (w .vertical) (tip high w)) ⌝ }
+    requires { ⌜ (n ≤ 1408) × Traced (λ c. c % 4093) (take n (now codes)) (now last) (now before) ⌝ }
+    ensures { λ r. ⌜ ((ws : List Wire) (ps : List Point) → Coded (marksWithKind ws ps) (take n (now (codes .entry))) → r ≡ heldApart ws ps (w .vertical) (tip high w)) ⌝ }
 {
     let p = high_tip(w);
     let kind = kind_of(!w.vertical);
@@ -42,8 +42,8 @@ fn flags_of(
     last: &[u16; 4096],
     before: &[u16; 1408],
 ) -> [bool; 512]
-    requires { ⌜ (ws .count ≤ 512) × ((n ≤ 1408) × Chained (λ c. c % 4093) (take n (now codes)) (now last) (now before)) ⌝ }
-    ensures { λ r. ⌜ ((ps : List Point) → Coded (marksOf (wireRows ws) ps) (take n (now (codes .entry))) → Flagged (wireRows ws) ps r) ⌝ }
+    requires { ⌜ (ws .count ≤ 512) × ((n ≤ 1408) × Traced (λ c. c % 4093) (take n (now codes)) (now last) (now before)) ⌝ }
+    ensures { λ r. ⌜ ((ps : List Point) → Coded (marksWithKind (wireRows ws) ps) (take n (now (codes .entry))) → Flagged (wireRows ws) ps r) ⌝ }
 {
     let m = ws.count;
     let mut flags = [false; 512];

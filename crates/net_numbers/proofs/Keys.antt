@@ -15,7 +15,7 @@ use Rattle.sheet.specs.Drawings.{jointRows, zeroJoint}
 use Rattle.joints.specs.Keys.{spot, KeysOf}
 use Rattle.joints.proofs.Keying.{keys-at}
 use Rattle.nets.specs.Tables.{JointNumber}
-use Rattle.net_numbers.specs.Netted.{numberIn}
+use Rattle.net_numbers.specs.Netted.{numberOfJoint}
 use Rattle.net_numbers.specs.Found.{Ascending, PlaceOf, NumberAt, Jointed}
 use Rattle.lists.proofs.Finding.{rows-at}
 use Rattle.net_numbers.proofs.Numbered.{number-found}
@@ -96,13 +96,13 @@ module _ {ps : List Point} {js : Joints} {keys : List ℕ} (r : Ready ps js keys
       both {p} {q} {p′} {q′} e f t = subst (Rise p′) f (subst (λ x. Rise x q) e t)
 
   -- the number found is the number of the joint
-  pub ready-number : {p : Point} (q : Point) {k : ℕ} → q ∈ ps → p ≡ q → NumberAt keys (js .count) p k → k ≡ numberIn (jointRows js) q
+  pub ready-number : {p : Point} (q : Point) {k : ℕ} → q ∈ ps → p ≡ q → NumberAt keys (js .count) p k → k ≡ numberOfJoint (jointRows js) q
   ready-number q m e t =
       let f = number-found (jointRows js) q (r .jointed .all q m) in
       t .only (f .0) (omega (arith, f .2, length-rows)) (keys-at (r .keys-are) (r .jointed .room) (f .0) (omega (arith, f .2, length-rows)) ∙ sym (f .3) ∙ sym e) ∙ sym (f .1)
 
 -- a joint's number is above 0 and below 1,409
-pub number-low : {ps : List Point} {js : Joints} (p : Point) → Jointed ps js → p ∈ ps → JointNumber (numberIn (jointRows js) p)
+pub number-low : {ps : List Point} {js : Joints} (p : Point) → Jointed ps js → p ∈ ps → JointNumber (numberOfJoint (jointRows js) p)
 number-low {ps} {js} p j m =
     let f = number-found (jointRows js) p (j .all p m) in
     record { low = omega (arith, f .1); high = omega (arith, f .1, f .2, j .room, length-take (js .count) (js .rows)) }

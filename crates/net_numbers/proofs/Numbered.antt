@@ -18,12 +18,12 @@ use Rattle.sheet.proofs.JointRows.{joints-listed}
 use Rattle.nets.specs.Nets.{Numbered}
 use Rattle.nets.specs.Numbers.{byNumber}
 use Rattle.nets.proofs.Told.{OwnNumbers, numbers-right, numbers-low}
-use Rattle.net_numbers.specs.Netted.{endsOf, isPower, netOn, numberIn, netNumbers}
+use Rattle.net_numbers.specs.Netted.{linkEnds, isPower, netOn, numberOfJoint, netNumbers}
 use Rattle.lists.proofs.Finding.{span-found}
 
 -- a point with a joint has that joint's row for its number
-pub number-found : (js : List Joint) (p : Point) → (j : Joint) × j ∈ js × (place j ≡ p) → (m : ℕ) × (numberIn js p ≡ suc m) × (m < length js) × (p ≡ place (getD js m zeroJoint))
-unfolding numberIn
+pub number-found : (js : List Joint) (p : Point) → (j : Joint) × j ∈ js × (place j ≡ p) → (m : ℕ) × (numberOfJoint js p ≡ suc m) × (m < length js) × (p ≡ place (getD js m zeroJoint))
+unfolding numberOfJoint
 number-found js p t =
     let r = span-found (λ j. same-reads p (place j)) zeroJoint (t .1) (sym (t .2)) in
     (_, refl, r .0, r .1)
@@ -51,15 +51,15 @@ module _ (s : Sheet) where
   tips-marked : (w : Wire) → w ∈ s .wires → tip low w ∈ marksOf s × tip high w ∈ marksOf s
   tips-marked w m = (∈-left _ (low-end m), ∈-left _ (high-end m))
 
-  own : (p q : Point) → p ∈ marksOf s → q ∈ marksOf s → numberIn (joints s) p ≡ numberIn (joints s) q → p ≡ q
+  own : (p q : Point) → p ∈ marksOf s → q ∈ marksOf s → numberOfJoint (joints s) p ≡ numberOfJoint (joints s) q → p ≡ q
   own p q m n e =
       let a = number-found (joints s) p (all-joints p m) in
       let b = number-found (joints s) q (all-joints q n) in
       let i : a .0 ≡ b .0 = omega (arith, a .1, b .1, e) in
       a .3 ∙ ap (λ k. place (getD (joints s) k zeroJoint)) i ∙ sym (b .3)
 
-  own-numbers : OwnNumbers (λ p. p ∈ marksOf s) (numberIn (joints s)) (netOn s) (padsOf (s .parts))
-  unfolding numberIn
+  own-numbers : OwnNumbers (λ p. p ∈ marksOf s) (numberOfJoint (joints s)) (netOn s) (padsOf (s .parts))
+  unfolding numberOfJoint
   own-numbers = record {
     own = own;
     above = λ p m. omega arith;
@@ -77,5 +77,5 @@ module _ (s : Sheet) where
   pub net-numbers-low : (i : ℕ) → getD (netNumbers s) i 0 ≤ length (padsOf (s .parts))
   unfolding netNumbers
   net-numbers-low i =
-      let ns : List ℕ = map (numberIn (joints s)) (padsOf (s .parts)) in
-      omega (arith, numbers-low (byNumber (numberIn (joints s)) (netOn s)) ns i, length-map (padsOf (s .parts)) (numberIn (joints s)))
+      let ns : List ℕ = map (numberOfJoint (joints s)) (padsOf (s .parts)) in
+      omega (arith, numbers-low (byNumber (numberOfJoint (joints s)) (netOn s)) ns i, length-map (padsOf (s .parts)) (numberOfJoint (joints s)))

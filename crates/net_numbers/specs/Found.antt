@@ -1,4 +1,5 @@
--- Joints found by key: rows of joints as rising keys, and tables that hold points by the numbers of their joints.
+-- Joints found by key ("components and joints by (y, x)"): rows of joints as rising keys, and tables that hold points by the numbers of
+-- their joints.
 use Prim.Native.Nat.{ℕ, suc, _<_, _≤_}
 use mathlib.Core.List.{List, map}
 use mathlib.Core.Path.{_≡_}
@@ -13,8 +14,8 @@ use Rattle.sheet.specs.Drawings.{jointRows}
 use Rattle.joints.specs.Keys.{spot}
 use Rattle.nets.specs.declared.Links.{Links}
 use Rattle.nets.specs.declared.Pads.{Pads}
-use Rattle.nets.specs.Tables.{Wired, Padded, linkRows, padRows}
-use Rattle.net_numbers.specs.Netted.{endsOf, numberIn}
+use Rattle.nets.specs.Tables.{LinksFit, PadsFit, linkRows, padRows}
+use Rattle.net_numbers.specs.Netted.{endsOf, numberOfJoint}
 
 -- the first n keys rise
 pub record Ascending (keys : List ℕ) (n : ℕ) : Type 0 where
@@ -38,10 +39,10 @@ pub record Jointed (ps : List Point) (js : Joints) : Type 0 where
 
 -- the table has the wires by the numbers of the joints at their ends
 pub record LinksIn (js : List Joint) (ws : List Wire) (t : Links) : Type 0 where
-  pub wired : Wired t
-  pub links-are : linkRows t ≡ map (λ l. (numberIn js (l .0), numberIn js (l .1))) (map endsOf ws)
+  pub wired : LinksFit t
+  pub links-are : linkRows t ≡ map (λ l. (numberOfJoint js (l .0), numberOfJoint js (l .1))) (map endsOf ws)
 
 -- the table has the points by the numbers of their joints
 pub record PadsIn (js : List Joint) (ps : List Point) (t : Pads) : Type 0 where
-  pub padded : Padded t
-  pub pads-are : padRows t ≡ map (numberIn js) ps
+  pub padded : PadsFit t
+  pub pads-are : padRows t ≡ map (numberOfJoint js) ps

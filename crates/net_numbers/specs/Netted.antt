@@ -30,9 +30,9 @@ abbrev pub netOn : Sheet → Net Point
 netOn s = record { links = map endsOf (s .wires); powers = padsOf (keep isPower (s .parts)) }
 
 -- the number of the joint at a point: its row, counted from 1
-unfoldable pub numberIn : List Joint → Point → ℕ
-numberIn js p = suc (span (λ j. not (same p (place j))) js)
+unfoldable pub numberOfJoint : List Joint → Point → ℕ
+numberOfJoint js p = suc (span (λ j. not (same p (place j))) js)
 
 -- the net numbers of all pads, "going through the components in row order and each one's pads in symbol order"
 unfoldable pub netNumbers : Sheet → List ℕ
-netNumbers s = numbersOf (byNumber (numberIn (joints s)) (netOn s)) (map (numberIn (joints s)) (padsOf (s .parts)))
+netNumbers s = numbersOf (byNumber (numberOfJoint (joints s)) (netOn s)) (map (numberOfJoint (joints s)) (padsOf (s .parts)))

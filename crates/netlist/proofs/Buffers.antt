@@ -11,7 +11,7 @@ use Rattle.text.specs.Text.{Put}
 use Rattle.text.proofs.Puts.{put-whole}
 use Rattle.net_numbers.specs.Netted.{netNumbers}
 use Rattle.netlist.specs.Listing.{entry, nth, listWith, listOf}
-use Rattle.netlist.specs.Answers.{listed, answerOf, bufferOf}
+use Rattle.netlist.specs.Answers.{toldLength, answerOf, bufferOf}
 use Rattle.netlist.proofs.Rows.{nth-pad}
 
 pub list-is : (s : Sheet) {numbers : List ℕ} → numbers ≡ pad 384 0 (netNumbers s) → listWith (nth numbers) (map entry (s .parts)) ≡ listOf s
@@ -23,11 +23,11 @@ module _ {l old new : List ℕ} {k : ℕ} (p : Put old 0 l new k) where
   is-length : k ≡ length l
   is-length = omega (arith, p .behind)
 
-  pub answer-fits : (n : ℕ) → k ≤ n → listed 0 k ≡ answerOf l n
+  pub answer-fits : (n : ℕ) → k ≤ n → toldLength 0 k ≡ answerOf l n
   unfolding answerOf
-  answer-fits n h = rw (le-leb (length l) n (omega (arith, is-length))) (ap (listed 0) is-length)
+  answer-fits n h = rw (le-leb (length l) n (omega (arith, is-length))) (ap (toldLength 0) is-length)
 
-  pub answer-long : (n : ℕ) → n < k → listed 8 0 ≡ answerOf l n
+  pub answer-long : (n : ℕ) → n < k → toldLength 8 0 ≡ answerOf l n
   unfolding answerOf
   answer-long n h = rw (lt-leb (length l) n (omega (arith, is-length))) refl
 

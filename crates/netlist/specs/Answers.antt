@@ -12,12 +12,12 @@ use Rattle.netlist.specs.declared.LooseCount.{LooseCount}
 use Rattle.netlist.specs.Listing.{listOf, looseOf}
 
 -- a reply, and how many bytes of the lent buffer are the list
-abbrev pub listed : ℕ → ℕ → Listed
-listed reply length = record { reply = reply; length = length }
+abbrev pub toldLength : ℕ → ℕ → Listed
+toldLength reply length = record { reply = reply; length = length }
 
 -- "The written part of the lent buffer is told by its length"; "8: the list is longer than the lent buffer"; "A refusal tells length 0."
 unfoldable pub answerOf : List ℕ → ℕ → Listed
-answerOf list room = cond (leb (length list) room) (listed 0 (length list)) (listed 8 0)
+answerOf list room = cond (leb (length list) room) (toldLength 0 (length list)) (toldLength 8 0)
 
 -- the list in front, "bytes behind it stay"; after a refusal the buffer keeps its old content
 unfoldable pub bufferOf : List ℕ → List ℕ → List ℕ
@@ -27,16 +27,16 @@ bufferOf list old = cond (leb (length list) (length old)) (list ++ drop (length 
 
 -- the answer for a lent buffer of that many bytes: 9, 8, or 0 with the length of the list; "A refusal tells length 0."
 unfoldable pub netlistOf : Drawing → ℕ → Listed
-netlistOf d room = cond (lawful d) (answerOf (listOf (listsOf d)) room) (listed 9 0)
+netlistOf d room = cond (lawful d) (answerOf (listOf (listsOf d)) room) (toldLength 9 0)
 
 -- what the lent buffer then holds; after 9 or 8 "tally and buffer keep their old content"
 unfoldable pub netlistIn : Drawing → List ℕ → List ℕ
 netlistIn d old = cond (lawful d) (bufferOf (listOf (listsOf d)) old) old
 
 -- a reply, and the number of loose points
-abbrev pub counted : ℕ → ℕ → LooseCount
-counted reply count = record { reply = reply; count = count }
+abbrev pub looseCount : ℕ → ℕ → LooseCount
+looseCount reply count = record { reply = reply; count = count }
 
 -- 9 and no count, or how many points are loose: "a loose point is a joint whose count is 1"
 unfoldable pub looseAnswer : Drawing → LooseCount
-looseAnswer d = cond (lawful d) (counted 0 (looseOf (listsOf d))) (counted 9 0)
+looseAnswer d = cond (lawful d) (looseCount 0 (looseOf (listsOf d))) (looseCount 9 0)

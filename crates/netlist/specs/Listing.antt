@@ -38,6 +38,7 @@ pub record Entry : Type 0 where
   pub kind : ℕ
   pub label : List ℕ
 
+-- what the list tells of a component
 abbrev pub entry : Component → Entry
 entry c = record { kind = c .kind; label = labelPart (c .label) }
 
@@ -80,5 +81,6 @@ listOf s = listWith (nth (netNumbers s)) (map entry (s .parts))
 unfoldable pub looseIn : List Joint → ℕ
 looseIn js = length (keep (λ j. eqb (j .count) 1) js)
 
+-- the loose points of a sheet
 unfoldable pub looseOf : Sheet → ℕ
 looseOf s = looseIn (joints s)

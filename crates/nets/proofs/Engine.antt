@@ -6,10 +6,10 @@ use Prim.Native.Nat.{ℕ}
 use Rattle.nets.specs.declared.Links.{Links}
 use Rattle.nets.specs.declared.Pads.{Pads}
 use Rattle.nets.specs.Nets.{Fed, OneNet}
-use Rattle.nets.specs.Tables.{JointNumber, Wired, Padded, netIn, rootOf, Rooted}
+use Rattle.nets.specs.Tables.{JointNumber, LinksFit, PadsFit, netIn, rootOf, Rooted}
 use Rattle.nets.proofs.Told.{one-net, fed-zero}
 
-module _ (wires : Links) (powers : Pads) (w : Wired wires) (p : Padded powers) (alias : List ℕ) (r : Rooted (netIn wires powers) alias) where
+module _ (wires : Links) (powers : Pads) (w : LinksFit wires) (p : PadsFit powers) (alias : List ℕ) (r : Rooted (netIn wires powers) alias) where
   pub root-one-net : (a b : ℕ) → JointNumber a → JointNumber b → (rootOf alias a ≡ rootOf alias b) ↔ OneNet (netIn wires powers) a b
   root-one-net a b ja jb =
       let law = one-net (netIn wires powers) (λ l i. (w .ends l i .0 .low, w .ends l i .1 .low)) (λ n i. p .joints n i .low) a b (ja .low) (jb .low) in

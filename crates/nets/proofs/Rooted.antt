@@ -10,7 +10,7 @@ use lib.ListN.{length, getD}
 use Rattle.lists.specs.Lists.{_∈_}
 use Rattle.lists.proofs.Tests.{decide, choose, eqb-reads}
 use Rattle.nets.specs.Nets.{Net}
-use Rattle.nets.specs.Numbers.{merged, netFrom, startOf, netOf}
+use Rattle.nets.specs.Numbers.{merged, netFrom, firstNet, netOf}
 use Rattle.nets.specs.Tables.{Falling, rootOf, joinOf, tabulate, Rooted}
 use Rattle.nets.proofs.Chains.{netWith}
 use Rattle.nets.proofs.Tabulate.{tabulate-at, tabulate-falls, length-tabulate}
@@ -20,15 +20,15 @@ use Rattle.nets.proofs.Roots.{root-still, root-step, root-low, join-fal
 -- ---- before any wire
 module _ (powers : List ℕ) where
   abbrev table : List ℕ
-  table = tabulate (startOf powers) 1409
+  table = tabulate (firstNet powers) 1409
 
-  start-at : (n : ℕ) → n < 1409 → getD table n 0 ≡ startOf powers n
-  start-at n h = tabulate-at (startOf powers) 1409 n h
+  start-at : (n : ℕ) → n < 1409 → getD table n 0 ≡ firstNet powers n
+  start-at n h = tabulate-at (firstNet powers) 1409 n h
 
   start-falls : Falling table
-  start-falls = tabulate-falls (startOf powers) 1409 (start-low powers)
+  start-falls = tabulate-falls (firstNet powers) 1409 (start-low powers)
 
-  start-roots : (n : ℕ) → n < 1409 → rootOf table n ≡ startOf powers n
+  start-roots : (n : ℕ) → n < 1409 → rootOf table n ≡ firstNet powers n
   start-roots n h = ⊎-elim
       (λ (i : n ∈ powers). let e = start-power powers n i in root-step table start-falls n ∙ ap (rootOf table) (start-at n h ∙ e) ∙ omega (arith, root-low table start-falls 0, e))
       (λ (f : n ∈ powers → ⊥). let e = start-other powers n f in root-still table n (start-at n h ∙ e) ∙ sym e)
@@ -36,7 +36,7 @@ module _ (powers : List ℕ) where
 
   pub rooted-start : Rooted (netWith powers []) table
   unfolding netOf netFrom
-  rooted-start = record { long = length-tabulate (startOf powers) 1409; falls = start-falls; roots = start-roots }
+  rooted-start = record { long = length-tabulate (firstNet powers) 1409; falls = start-falls; roots = start-roots }
 
 -- ---- one wire more
 net-next : (f : ℕ → ℕ) (ls : List (ℕ × ℕ)) (u v n : ℕ) → netFrom f (ls ++ ((u, v) ∷ [])) n ≡ merged (netFrom f ls) u v n
@@ -57,8 +57,8 @@ rooted-next {powers} {ls} {al} u v hu hv r =
       long = length-join al u v ∙ r .long;
       falls = join-falls al (r .falls) u v lu lv;
       roots = λ n h. root-joined al (r .falls) u v lu lv n
-          ∙ merged-as (rootOf al) (netFrom (startOf powers) ls) u v n (r .roots u hu) (r .roots v hv) (r .roots n h)
-          ∙ sym (net-next (startOf powers) ls u v n);
+          ∙ merged-as (rootOf al) (netFrom (firstNet powers) ls) u v n (r .roots u hu) (r .roots v hv) (r .roots n h)
+          ∙ sym (net-next (firstNet powers) ls u v n);
     }
 
 -- ---- no net is above its joint
@@ -73,4 +73,4 @@ from-low f (l ∷ ls) n = omega (arith, from-low (merged f (l .0) (l .1)) ls n, 
 
 pub net-low : (net : Net ℕ) (n : ℕ) → netOf net n ≤ n
 unfolding netOf
-net-low net n = omega (arith, from-low (startOf (net .powers)) (net .links) n, start-low (net .powers) n)
+net-low net n = omega (arith, from-low (firstNet (net .powers)) (net .links) n, start-low (net .powers) n)

@@ -5,9 +5,14 @@ use mathlib.Core.List.{List}
 use Prim.Native.Nat.{ℕ}
 use native.Mathlib.Omega.{arith}
 use lib.ListN.{length}
-use Rattle.nets.specs.Nets.{Net, At, Fed, OneNet, Numbered, SameOn, SameNets}
+use Rattle.nets.specs.Nets.{Net, At, Fed, OneNet, Numbered, SameOn}
 use Rattle.nets.proofs.Places.{at-low, at-some, at-one, at-in, in-at}
 use Rattle.nets.proofs.Order.{Alike, order-told}
+
+-- `SameOn` of two rows of pads, place by place
+pub record SameNets {P Q : Type 0} (net : Net P) (pads : List P) (net′ : Net Q) (pads′ : List Q) : Type 0 where
+  pub pairs : {i j : ℕ} {p q : P} {p′ q′ : Q} → At pads i p → At pads′ i p′ → At pads j q → At pads′ j q′ → OneNet net p q ↔ OneNet net′ p′ q′
+  pub feds : {i : ℕ} {p : P} {p′ : Q} → At pads i p → At pads′ i p′ → Fed net p ↔ Fed net′ p′
 
 -- an equivalence carried over at both ends
 carry : {A B C D : Type 0} → A ↔ C → B ↔ D → A ↔ B → C ↔ D

@@ -10,7 +10,7 @@ use Rattle.lists.specs.Lists.{_∈_, any}
 use Rattle.lists.proofs.Lists.{any-reads}
 use Rattle.lists.proofs.Tests.{Reads, decide, choose, eqb-reads, reads-as}
 use Rattle.nets.specs.Nets.{Net, here, Fed, OneNet, by-chain, both-fed, Numbered}
-use Rattle.nets.specs.Numbers.{merged, netFrom, startOf, netOf, byNumber, numbering, numbersOf}
+use Rattle.nets.specs.Numbers.{merged, netFrom, firstNet, netOf, byNumber, numbering, numbersOf}
 use Rattle.nets.proofs.Places.{at-in, at-map}
 use Rattle.nets.proofs.Chains.{netWith}
 use Rattle.nets.proofs.Tells.{Tells, tells-all, tells-one, tells-fed}
@@ -38,15 +38,15 @@ module _ {P : Type 0} {J : P → Type 0} {powers : List P} {f : P → ℕ} where
 pub start-reads : (powers : List ℕ) (n : ℕ) → Reads (n ∈ powers) (any (eqb n) powers)
 start-reads powers n = reads-as (λ t. subst (λ m. m ∈ powers) (sym (t .2)) (t .1), λ i. (n, i, refl)) (any-reads (eqb-reads n) powers)
 
-pub start-power : (powers : List ℕ) (n : ℕ) → n ∈ powers → startOf powers n ≡ 0
-unfolding startOf
+pub start-power : (powers : List ℕ) (n : ℕ) → n ∈ powers → firstNet powers n ≡ 0
+unfolding firstNet
 start-power powers n i = choose (start-reads powers n) (λ m. m ≡ 0) (λ p. refl) (λ f. absurd (f i))
 
-pub start-other : (powers : List ℕ) (n : ℕ) → (n ∈ powers → ⊥) → startOf powers n ≡ n
-unfolding startOf
+pub start-other : (powers : List ℕ) (n : ℕ) → (n ∈ powers → ⊥) → firstNet powers n ≡ n
+unfolding firstNet
 start-other powers n f = choose (start-reads powers n) (λ m. m ≡ n) (λ i. absurd (f i)) (λ g. refl)
 
-pub start-low : (powers : List ℕ) (n : ℕ) → startOf powers n ≤ n
+pub start-low : (powers : List ℕ) (n : ℕ) → firstNet powers n ≤ n
 start-low powers n = ⊎-elim
     (λ (i : n ∈ powers). omega (arith, start-power powers n i))
     (λ (f : n ∈ powers → ⊥). omega (arith, start-other powers n f))
@@ -57,7 +57,7 @@ module _ {P : Type 0} {J : P → Type 0} {powers : List P} (number : P → ℕ) 
     (own : (p q : P) → J p → J q → number p ≡ number q → p ≡ q) (above : (p : P) → J p → 0 < number p) (joint : (p : P) → p ∈ powers → J p)
     (there : (p : P) → p ∈ powers → number p ∈ ps) (back : (n : ℕ) → n ∈ ps → (p : P) × p ∈ powers × (number p ≡ n)) where
   abbrev f : P → ℕ
-  f p = startOf ps (number p)
+  f p = firstNet ps (number p)
 
   other : (p : P) → (f p ≡ 0 → ⊥) → f p ≡ number p
   other p n = start-other ps (number p) (λ i. n (start-power ps (number p) i))
@@ -121,7 +121,7 @@ module _ {P : Type 0} where
   pub numbers-right : {J : P → Type 0} {number : P → ℕ} {net : Net P} {pads : List P} → OwnNumbers J number net pads → Numbered net pads (numbersOf (byNumber number net) (map number pads))
   unfolding numbersOf netOf
   numbers-right {J} {number} {net} {pads} h =
-      let g : ℕ → ℕ = startOf (map number (net .powers)) in
+      let g : ℕ → ℕ = firstNet (map number (net .powers)) in
       let start : Tells J (net .powers) [] (λ p. g (number p)) = start-tells number (map number (net .powers)) (h .own) (h .above) (h .powered) (λ p i. ∈-map number i) (λ n i. ∈-of-map number (net .powers) i) in
       subst (λ xs. Numbered net pads (numbering xs)) (maps-same _ (netOf (byNumber number net)) number (net-by-number number g (net .links)) pads)
       (numbered-by pads (h .padded) (tells-all (net .links) (h .ends) start))

@@ -16,7 +16,8 @@ pub data Linked {P : Type 0} (links : List (P × P)) (p q : P) : Type 0 where
   forth : (p, q) ∈ links → Linked links p q
   back : (q, p) ∈ links → Linked links p q
 
--- "A chain is a row of wires, each next one having an end where the one before has an end; it joins the pads at its two outer ends. A pad is on one net with itself." (The empty row joins a point with itself.)
+-- "A chain is a row of wires, each next one having an end where the one before has an end; it joins the pads at its two outer ends. A pad
+-- is on one net with itself." (The empty row joins a point with itself.)
 pub data Chain {P : Type 0} (links : List (P × P)) : P → P → Type 0 where
   here : {p : P} → Chain links p p
   on : {p q r : P} → Linked links p q → Chain links q r → Chain links p r
@@ -54,8 +55,3 @@ pub record Numbered {P : Type 0} (net : Net P) (pads : List P) (ns : List ℕ) :
 pub record SameOn {P : Type 0} (pads : List P) (net net′ : Net P) : Type 0 where
   pub pairs : (p q : P) → p ∈ pads → q ∈ pads → OneNet net p q ↔ OneNet net′ p q
   pub feds : (p : P) → p ∈ pads → Fed net p ↔ Fed net′ p
-
--- the same of two rows, place by place
-pub record SameNets {P Q : Type 0} (net : Net P) (pads : List P) (net′ : Net Q) (pads′ : List Q) : Type 0 where
-  pub pairs : {i j : ℕ} {p q : P} {p′ q′ : Q} → At pads i p → At pads′ i p′ → At pads j q → At pads′ j q′ → OneNet net p q ↔ OneNet net′ p′ q′
-  pub feds : {i : ℕ} {p : P} {p′ : Q} → At pads i p → At pads′ i p′ → Fed net p ↔ Fed net′ p′

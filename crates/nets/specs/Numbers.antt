@@ -1,4 +1,4 @@
--- Net numbers, computed: a number for the net of each point, and then the numbers in the order in which the nets are met.
+-- Net numbers, computed: a number for the net of each point, and then "each net not met before gets the next number from 1".
 use mathlib.Core.Bool.{cond}
 use mathlib.Core.List.{List, [], _∷_, map}
 use Prim.Native.Nat.{ℕ, suc, _-_, min, max}
@@ -18,12 +18,12 @@ module _ {P : Type 0} where
   netFrom f (l ∷ ls) p = netFrom (merged f (l .0) (l .1)) ls p
 
 -- before any wire a joint is on a net of its own number, and one with a power pad on net 0
-unfoldable pub startOf : List ℕ → ℕ → ℕ
-startOf powers n = cond (any (eqb n) powers) 0 n
+unfoldable pub firstNet : List ℕ → ℕ → ℕ
+firstNet powers n = cond (any (eqb n) powers) 0 n
 
 -- the net of a joint
 unfoldable pub netOf : Net ℕ → ℕ → ℕ
-netOf net n = netFrom (startOf (net .powers)) (net .links) n
+netOf net n = netFrom (firstNet (net .powers)) (net .links) n
 
 -- a net of points by the numbers of their joints
 abbrev pub byNumber : {P : Type 0} → (P → ℕ) → Net P → Net ℕ
@@ -34,6 +34,7 @@ unfoldable pub rank : ℕ → List ℕ → ℕ
 rank x [] = 0
 rank x (y ∷ met) = cond (eqb x y) (suc (length met)) (rank x met)
 
+-- x among the nets met: "each net not met before" is met now
 unfoldable pub meet : ℕ → List ℕ → List ℕ
 meet x met = cond (eqb (rank x met) 0) (x ∷ met) met
 

@@ -1,4 +1,5 @@
--- The tables of the code: wires and pads by the numbers of their joints, and the aliases of net numbers.
+-- The tables of the code: wires and pads by the numbers of their joints, and the aliases of net numbers: "following aliases from a net to
+-- the smallest number".
 use mathlib.Core.Path.{_≡_}
 use mathlib.Core.List.{List, [], _∷_, _++_, map}
 use Prim.Native.Nat.{ℕ, zero, suc, _<_, _≤_, min, max}
@@ -15,27 +16,29 @@ pub record JointNumber (n : ℕ) : Type 0 where
   pub low : 0 < n
   pub high : n < 1409
 
-abbrev pub endsOf : Link → ℕ × ℕ
-endsOf l = (l .from, l .to)
+-- a wire by the numbers of its two joints
+abbrev pub linkEnds : Link → ℕ × ℕ
+linkEnds l = (l .from, l .to)
 
 -- the wires of a table, by the joints at their ends
 unfoldable pub linkRows : Links → List (ℕ × ℕ)
-linkRows t = map endsOf (take (t .count) (t .rows))
+linkRows t = map linkEnds (take (t .count) (t .rows))
 
 -- the pads of a table, by their joints
 unfoldable pub padRows : Pads → List ℕ
 padRows t = take (t .count) (t .rows)
 
+-- what joins the joints: the wires of one table, the power pads of the other
 abbrev pub netIn : Links → Pads → Net ℕ
 netIn wires powers = record { links = linkRows wires; powers = padRows powers }
 
 -- the table is not overfull, and each wire end is a joint
-pub record Wired (t : Links) : Type 0 where
+pub record LinksFit (t : Links) : Type 0 where
   pub room : t .count ≤ 512
   pub ends : (l : ℕ × ℕ) → l ∈ linkRows t → JointNumber (l .0) × JointNumber (l .1)
 
 -- the table is not overfull, and each pad is at a joint
-pub record Padded (t : Pads) : Type 0 where
+pub record PadsFit (t : Pads) : Type 0 where
   pub room : t .count ≤ 384
   pub joints : (n : ℕ) → n ∈ padRows t → JointNumber n
 

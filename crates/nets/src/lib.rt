@@ -5,8 +5,8 @@ ghost use Prim.Native.Nat.{ℕ, _<_};
 ghost use lib.ListN.{getD};
 ghost use Rattle.lists.specs.Tables.{pad};
 ghost use Rattle.nets.specs.Numbers;
-ghost use Rattle.nets.specs.Numbers.{startOf, netOf, numbering, numbersOf};
-ghost use Rattle.nets.specs.Tables.{JointNumber, Wired, Padded, netIn, padRows, tabulate, Falling, rootOf, joinOf, Rooted, Ranked};
+ghost use Rattle.nets.specs.Numbers.{firstNet, netOf, numbering, numbersOf};
+ghost use Rattle.nets.specs.Tables.{JointNumber, LinksFit, PadsFit, netIn, padRows, tabulate, Falling, rootOf, joinOf, Rooted, Ranked};
 
 // A wire by the joints at its two ends.
 pub struct Link {
@@ -63,8 +63,8 @@ fn own() -> [u16; 1409]
 
 // The aliases before any wire: 0 at a joint with a power pad, and its own number at any other.
 fn start(powers: Pads) -> [u16; 1409]
-    requires { ⌜ Padded powers ⌝ }
-    ensures { λ r. ⌜ r ≡ tabulate (startOf (padRows powers)) 1409 ⌝ }
+    requires { ⌜ PadsFit powers ⌝ }
+    ensures { λ r. ⌜ r ≡ tabulate (firstNet (padRows powers)) 1409 ⌝ }
 {
     let mut alias = own();
     let mut i: usize = 0;
@@ -78,7 +78,7 @@ fn start(powers: Pads) -> [u16; 1409]
 
 // The aliases after all the wires.
 fn aliases(wires: Links, powers: Pads) -> [u16; 1409]
-    requires { ⌜ Wired wires ⌝ ∗ ⌜ Padded powers ⌝ }
+    requires { ⌜ LinksFit wires ⌝ ∗ ⌜ PadsFit powers ⌝ }
     ensures { λ r. ⌜ Rooted (netIn wires powers) r ⌝ }
 {
     let mut alias = start(powers);
@@ -108,7 +108,7 @@ fn flatten(alias: [u16; 1409]) -> [u16; 1409]
 
 // The net of each joint, 0 for the fed ones.
 pub fn nets(wires: Links, powers: Pads) -> [u16; 1409]
-    requires { ⌜ Wired wires ⌝ ∗ ⌜ Padded powers ⌝ }
+    requires { ⌜ LinksFit wires ⌝ ∗ ⌜ PadsFit powers ⌝ }
     ensures { λ r. ⌜ r ≡ tabulate (netOf (netIn wires powers)) 1409 ⌝ }
 {
     flatten(aliases(wires, powers))
@@ -128,7 +128,7 @@ fn meet(given: &mut [u16; 1409], count: u16, net: u16) -> u16
 
 // The numbers of the pads' nets in the order in which these are met, 0 for net 0; and zeros behind them.
 fn number(nets: [u16; 1409], pads: Pads) -> [u16; 384]
-    requires { ⌜ Falling nets ⌝ ∗ ⌜ Padded pads ⌝ }
+    requires { ⌜ Falling nets ⌝ ∗ ⌜ PadsFit pads ⌝ }
     ensures { λ r. ⌜ r ≡ pad 384 0 (numbering (map (λ n. getD nets n 0) (padRows pads))) ⌝ }
 {
     let mut out = [0u16; 384];
@@ -147,7 +147,7 @@ fn number(nets: [u16; 1409], pads: Pads) -> [u16; 384]
 
 // The net numbers of the pads of a drawing.
 pub fn pad_nets(wires: Links, powers: Pads, pads: Pads) -> [u16; 384]
-    requires { ⌜ Wired wires ⌝ ∗ ⌜ Padded powers ⌝ ∗ ⌜ Padded pads ⌝ }
+    requires { ⌜ LinksFit wires ⌝ ∗ ⌜ PadsFit powers ⌝ ∗ ⌜ PadsFit pads ⌝ }
     ensures { λ r. ⌜ r ≡ pad 384 0 (numbersOf (netIn wires powers) (padRows pads)) ⌝ }
 {
     number(nets(wires, powers), pads)

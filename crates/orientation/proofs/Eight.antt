@@ -19,7 +19,7 @@ use borrow.Author.Tests.{lt-ltb}
 use Rattle.lists.specs.Lists.{_∈_, all}
 use Rattle.lists.proofs.Tests.{both-l, both-r, test, holds}
 use Rattle.lists.proofs.Lists.{all-reads}
-use Rattle.orientation.specs.Orientations.{eqZ, turn, eight, zeros, sameOf, seek, numberIs, noNumber, numberOf, known, eighth, numberedOf, done, refused, turnedBy}
+use Rattle.orientation.specs.Orientations.{eqZ, rotMirror, eight, zeros, sameOf, seek, numberIs, noNumber, numberOf, known, eighth, numberedOf, turnIs, noTurn, turnedBy}
 use Rattle.orientation.specs.Rows.{Row, plus-x, minus-x, plus-y, minus-y}
 use Rattle.orientation.specs.declared.RotMirror.{RotMirror}
 use Rattle.orientation.proofs.Bits.{eqZ→eq}
@@ -42,7 +42,7 @@ same-eq o p t =
     let w = eqZ (o .3) (p .3) in
     let t1 = both-r (eqZ (o .0) (p .0)) (y && (z && w)) t in
     let t2 = both-r y (z && w) t1 in
-    λ i. turn (eqZ→eq (o .0) (p .0) (both-l (eqZ (o .0) (p .0)) (y && (z && w)) t) i) (eqZ→eq (o .1) (p .1) (both-l y (z && w) t1) i) (eqZ→eq (o .2) (p .2) (both-l z w t2) i) (eqZ→eq (o .3) (p .3) (both-r z w t2) i)
+    λ i. rotMirror (eqZ→eq (o .0) (p .0) (both-l (eqZ (o .0) (p .0)) (y && (z && w)) t) i) (eqZ→eq (o .1) (p .1) (both-l y (z && w) t1) i) (eqZ→eq (o .2) (p .2) (both-l z w t2) i) (eqZ→eq (o .3) (p .3) (both-r z w t2) i)
 
 sought : (o : RotMirror) (n : ℕ) (ps : List RotMirror) → T (eqb (seek o n ps .reply) 0) → o ∈ ps
 sought o n [] t = absurd t
@@ -79,7 +79,7 @@ step o n h = rw (drop-cons eight n zeros h, add-one)
 
 pub turn-of : (n : ℕ) → n < 8 → numberedOf n .turn ≡ eighth n
 unfolding numberedOf
-turn-of n h = λ i. cond (lt-ltb n 8 h i) (done (eighth n)) refused .turn
+turn-of n h = λ i. cond (lt-ltb n 8 h i) (turnIs (eighth n)) noTurn .turn
 
 module _ (o p : RotMirror) (n : ℕ) (r : Bool) (h : n < 8) (inv : numberOf o ≡ seek o n (drop n eight)) (e : r ≡ sameOf o p) (q : p ≡ eighth n) where
   case : (b : Bool) → r ≡ b → numberOf o ≡ cond b (numberIs n) (seek o (n + 1) (drop (n + 1) eight))
@@ -130,10 +130,10 @@ module _ (o : RotMirror) {r : Bool} (e : r ≡ known o) where
   pub smalls : r ≡ true → Smalls o
   smalls t = small-known o (subst T (sym t ∙ e) tt)
 
-  pub turned : (f : RotMirror → RotMirror) → r ≡ true → {p : RotMirror} → p ≡ f o → done p ≡ turnedBy f o
+  pub turned : (f : RotMirror → RotMirror) → r ≡ true → {p : RotMirror} → p ≡ f o → turnIs p ≡ turnedBy f o
   unfolding turnedBy
-  turned f t q = ap done q ∙ sym (λ i. cond ((sym e ∙ t) i) (done (f o)) refused)
+  turned f t q = ap turnIs q ∙ sym (λ i. cond ((sym e ∙ t) i) (turnIs (f o)) noTurn)
 
-  pub unturned : (f : RotMirror → RotMirror) → r ≡ false → refused ≡ turnedBy f o
+  pub unturned : (f : RotMirror → RotMirror) → r ≡ false → noTurn ≡ turnedBy f o
   unfolding turnedBy
-  unturned f t = sym (λ i. cond ((sym e ∙ t) i) (done (f o)) refused)
+  unturned f t = sym (λ i. cond ((sym e ∙ t) i) (turnIs (f o)) noTurn)

@@ -9,7 +9,7 @@ use lib.IntN.{negℤ-negℤ}
 use lib.ListN.{getD}
 use Rattle.lists.specs.Lists.{all}
 use Rattle.lists.proofs.Tests.{agree}
-use Rattle.orientation.specs.Orientations.{turn, sameOf, numberIs, told, numberOf, known, eighth, done, refused, turnedBy, rightOf, leftOf, mirrorOf}
+use Rattle.orientation.specs.Orientations.{rotMirror, sameOf, numberIs, told, numberOf, known, eighth, turnIs, noTurn, turnedBy, rightOf, leftOf, mirrorOf}
 use Rattle.orientation.specs.declared.RotMirror.{RotMirror}
 use Rattle.orientation.specs.declared.Number.{Number}
 use Rattle.orientation.specs.declared.Number.the-variants.{At, Unknown}
@@ -18,16 +18,16 @@ use Rattle.orientation.proofs.Eight.{Each, each, of-eight, test-eight, 
 
 -- ---- on any four numbers
 pub left-right : (o : RotMirror) → leftOf (rightOf o) ≡ o
-left-right o = λ i. turn (o .0) (o .1) (negℤ-negℤ (o .2) i) (negℤ-negℤ (o .3) i)
+left-right o = λ i. rotMirror (o .0) (o .1) (negℤ-negℤ (o .2) i) (negℤ-negℤ (o .3) i)
 
 pub right-left : (o : RotMirror) → rightOf (leftOf o) ≡ o
-right-left o = λ i. turn (negℤ-negℤ (o .0) i) (negℤ-negℤ (o .1) i) (o .2) (o .3)
+right-left o = λ i. rotMirror (negℤ-negℤ (o .0) i) (negℤ-negℤ (o .1) i) (o .2) (o .3)
 
 pub four-rights : (o : RotMirror) → rightOf (rightOf (rightOf (rightOf o))) ≡ o
-four-rights o = λ i. turn (negℤ-negℤ (o .0) i) (negℤ-negℤ (o .1) i) (negℤ-negℤ (o .2) i) (negℤ-negℤ (o .3) i)
+four-rights o = λ i. rotMirror (negℤ-negℤ (o .0) i) (negℤ-negℤ (o .1) i) (negℤ-negℤ (o .2) i) (negℤ-negℤ (o .3) i)
 
 pub two-mirrors : (o : RotMirror) → mirrorOf (mirrorOf o) ≡ o
-two-mirrors o = λ i. turn (negℤ-negℤ (o .0) i) (negℤ-negℤ (o .1) i) (o .2) (o .3)
+two-mirrors o = λ i. rotMirror (negℤ-negℤ (o .0) i) (negℤ-negℤ (o .1) i) (o .2) (o .3)
 
 -- ---- the numbers 0 to 7 and the eight are one to one
 below-8 : (P : ℕ → Type 0) → Each P (upTo 8) → (n : ℕ) → n < 8 → P n
@@ -103,18 +103,18 @@ mirror-acts = below-8 (Acts mirrorOf mirrors) (refl, (refl, (refl, (refl, (refl,
 pub is-known : (o : RotMirror) → T (known o) → known o ≡ true
 is-known o t = agree (known o) true (λ u. tt) (λ u. t)
 
-pub turn-known : (f : RotMirror → RotMirror) (o : RotMirror) → T (known o) → turnedBy f o ≡ done (f o)
+pub turn-known : (f : RotMirror → RotMirror) (o : RotMirror) → T (known o) → turnedBy f o ≡ turnIs (f o)
 unfolding turnedBy
-turn-known f o t = λ i. cond (is-known o t i) (done (f o)) refused
+turn-known f o t = λ i. cond (is-known o t i) (turnIs (f o)) noTurn
 
-undone : (f g : RotMirror → RotMirror) (o : RotMirror) → T (known o) → T (known (f o)) → g (f o) ≡ o → turnedBy g (turnedBy f o .turn) ≡ done o
-undone f g o t u e = ap (λ (r : Turned). turnedBy g (r .turn)) (turn-known f o t) ∙ turn-known g (f o) u ∙ ap done e
+undone : (f g : RotMirror → RotMirror) (o : RotMirror) → T (known o) → T (known (f o)) → g (f o) ≡ o → turnedBy g (turnedBy f o .turn) ≡ turnIs o
+undone f g o t u e = ap (λ (r : Turned). turnedBy g (r .turn)) (turn-known f o t) ∙ turn-known g (f o) u ∙ ap turnIs e
 
-pub right-then-left : (o : RotMirror) → T (known o) → turnedBy leftOf (turnedBy rightOf o .turn) ≡ done o
+pub right-then-left : (o : RotMirror) → T (known o) → turnedBy leftOf (turnedBy rightOf o .turn) ≡ turnIs o
 right-then-left o t = undone rightOf leftOf o t (right-known o t) (left-right o)
 
-pub left-then-right : (o : RotMirror) → T (known o) → turnedBy rightOf (turnedBy leftOf o .turn) ≡ done o
+pub left-then-right : (o : RotMirror) → T (known o) → turnedBy rightOf (turnedBy leftOf o .turn) ≡ turnIs o
 left-then-right o t = undone leftOf rightOf o t (left-known o t) (right-left o)
 
-pub mirror-twice : (o : RotMirror) → T (known o) → turnedBy mirrorOf (turnedBy mirrorOf o .turn) ≡ done o
+pub mirror-twice : (o : RotMirror) → T (known o) → turnedBy mirrorOf (turnedBy mirrorOf o .turn) ≡ turnIs o
 mirror-twice o t = undone mirrorOf mirrorOf o t (mirror-known o t) (two-mirrors o)

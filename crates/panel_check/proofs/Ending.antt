@@ -21,14 +21,14 @@ use Rattle.lines.proofs.Runs.{in-chunks}
 use Rattle.panel_check.specs.declared.State.{State}
 use Rattle.panel_check.specs.declared.Held.{Held}
 use Rattle.panel_check.specs.Answers.{unreadableOf, isEnd}
-use Rattle.panel_check.specs.Telling.{Told, start, checked, ended, grown, after, concluded, answersOf}
-use Rattle.panel_check.specs.Printing.{Spilled, none, many, standing, Answers, Takes, Read, Ends, Printed}
+use Rattle.panel_check.specs.Telling.{Told, toldNothing, verdictOf, ended, withLine, toldAfter, concluded, answersOf}
+use Rattle.panel_check.specs.Printing.{Spilled, none, many, toldSoFar, Appended, Takes, Read, Concludes, Printed}
 use Rattle.panel_check.proofs.Standing.{spilled-both, put-front}
 
 -- ---- the last words
 
 module _ (r : State) (out : List ℕ) where
-  pub unreadable : {n : ℕ} {out′ : List ℕ} → length out ≡ 65536 → r .stopped ≡ true → Put out 0 (unreadableOf (r .lines)) out′ n × (n ≤ 36) → Ends (λ written. standing r written out) n out′
+  pub unreadable : {n : ℕ} {out′ : List ℕ} → length out ≡ 65536 → r .stopped ≡ true → Put out 0 (unreadableOf (r .lines)) out′ n × (n ≤ 36) → Concludes (λ written. toldSoFar r written out) n out′
   unfolding concluded
   unreadable long e p = record {
     written = [];
@@ -39,20 +39,20 @@ module _ (r : State) (out : List ℕ) where
   }
 
   module _ (going : r .stopped ≡ false) where
-    pub answered : {n : ℕ} {out′ : List ℕ} → r .used ≤ length out → r .begun ≡ true → Answers (r .sketch .drawing) (r .used) out n out′ → Ends (λ written. standing r written out) n out′
+    pub answered : {n : ℕ} {out′ : List ℕ} → r .used ≤ length out → r .begun ≡ true → Appended (r .sketch .drawing) (r .used) out n out′ → Concludes (λ written. toldSoFar r written out) n out′
     unfolding concluded
     answered {n} {out′} there e a = record {
       written = a .written;
       spilled = a .spilled;
       within = λ before. omega (arith, a .within, length-append before (a .written), length-append before (take (r .used) out), length-take-le (r .used) out there);
       all = λ before.
-          let all : (before ++ a .written) ++ take n out′ ≡ (before ++ take (r .used) out) ++ checked (r .sketch .drawing) =
-          append-assoc before (a .written) (take n out′) ∙ ap (λ l. before ++ l) (a .all) ∙ sym (append-assoc before (take (r .used) out) (checked (r .sketch .drawing))) in
+          let all : (before ++ a .written) ++ take n out′ ≡ (before ++ take (r .used) out) ++ verdictOf (r .sketch .drawing) =
+          append-assoc before (a .written) (take n out′) ∙ ap (λ l. before ++ l) (a .all) ∙ sym (append-assoc before (take (r .used) out) (verdictOf (r .sketch .drawing))) in
           rw (going, e) all;
       fits = a .fits;
     }
 
-    pub idle : r .used ≤ 65536 → r .begun ≡ false → Ends (λ written. standing r written out) (r .used) out
+    pub idle : r .used ≤ 65536 → r .begun ≡ false → Concludes (λ written. toldSoFar r written out) (r .used) out
     unfolding concluded
     idle h e = record {
       written = [];
@@ -67,13 +67,13 @@ module _ (r : State) (out : List ℕ) where
 
 -- ---- a last line
 
-finish-some : (x : Told) (l : List ℕ) → 0 < length l → finish after (ran x l) ≡ after x l
+finish-some : (x : Told) (l : List ℕ) → 0 < length l → finish toldAfter (ran x l) ≡ toldAfter x l
 finish-some x [] h = absurd (omega arith)
 finish-some x (b ∷ l) h = refl
 
 module _ (r : State) (held out : List ℕ) (count : ℕ) {n : ℕ} where
-  pub last-line : (q : State) (out′ : List ℕ) {out″ : List ℕ} → 0 < count → count ≤ length held → Takes r (take count held) out q out′ → Ends (λ written. standing q written out′) n out″
-      → Ends (λ written. finish after (ran (standing r written out) (take count held))) n out″
+  pub last-line : (q : State) (out′ : List ℕ) {out″ : List ℕ} → 0 < count → count ≤ length held → Takes r (take count held) out q out′ → Concludes (λ written. toldSoFar q written out′) n out″
+      → Concludes (λ written. finish toldAfter (ran (toldSoFar r written out) (take count held))) n out″
   last-line q out′ {out″} some there t e = record {
     written = t .written ++ e .written;
     spilled = spilled-both (t .spilled) (e .spilled);
@@ -82,33 +82,33 @@ module _ (r : State) (held out : List ℕ) (count : ℕ) {n : ℕ} where
         omega (arith, is, e .within (before ++ t .written), ap (λ (x : Told). length (x .answers)) (same before));
     all = λ before.
         subst (λ (x : Told). cond (x .stopped) [] (before ++ (t .written ++ e .written)) ++ take n out″ ≡ concluded x) (same before)
-        (subst (λ b. cond (q .stopped) [] b ++ take n out″ ≡ concluded (standing q (before ++ t .written) out′)) (append-assoc before (t .written) (e .written)) (e .all (before ++ t .written)));
+        (subst (λ b. cond (q .stopped) [] b ++ take n out″ ≡ concluded (toldSoFar q (before ++ t .written) out′)) (append-assoc before (t .written) (e .written)) (e .all (before ++ t .written)));
     fits = e .fits;
   }
     where
-      same : (before : List ℕ) → standing q (before ++ t .written) out′ ≡ finish after (ran (standing r before out) (take count held))
-      same before = t .told before ∙ sym (finish-some (standing r before out) (take count held) (omega (arith, length-take-le count held there)))
+      same : (before : List ℕ) → toldSoFar q (before ++ t .written) out′ ≡ finish toldAfter (ran (toldSoFar r before out) (take count held))
+      same before = t .told before ∙ sym (finish-some (toldSoFar r before out) (take count held) (omega (arith, length-take-le count held there)))
 
-  pub no-line : {out′ : List ℕ} → count ≡ 0 → Ends (λ written. standing r written out) n out′ → Ends (λ written. finish after (ran (standing r written out) (take count held))) n out′
-  no-line {out′} z e = subst (λ k. Ends (λ written. finish after (ran (standing r written out) (take k held))) n out′) (sym z) e
+  pub no-line : {out′ : List ℕ} → count ≡ 0 → Concludes (λ written. toldSoFar r written out) n out′ → Concludes (λ written. finish toldAfter (ran (toldSoFar r written out) (take count held))) n out′
+  no-line {out′} z e = subst (λ k. Concludes (λ written. finish toldAfter (ran (toldSoFar r written out) (take k held))) n out′) (sym z) e
 
 -- ---- the whole
 
 -- a line that says nothing is not looked at further
-after-unreadable : (t : Told) (l : List ℕ) → saidOf l ≡ Unreadable → after t l ≡ cond (t .stopped) t (grown t (notHeld (t .sketch)))
-unfolding after addedOf
-after-unreadable t l e = ap (λ (s : Said). cond (t .stopped) t (cond (isEnd s) (ended t) (grown t (addedOf (t .sketch) l s)))) e
+after-unreadable : (t : Told) (l : List ℕ) → saidOf l ≡ Unreadable → toldAfter t l ≡ cond (t .stopped) t (withLine t (notHeld (t .sketch)))
+unfolding toldAfter addedOf
+after-unreadable t l e = ap (λ (s : Said). cond (t .stopped) t (cond (isEnd s) (ended t) (withLine t (addedOf (t .sketch) l s)))) e
 
-after-81 : (t : Told) (l : List ℕ) → after t (take 81 l) ≡ after t l
-after-81 t l = ⊎-elim (λ (le : length l ≤ 80). ap (after t) (take-all 81 l (omega arith))) (λ n. long (omega arith)) (decide (leb-reads (length l) 80))
+after-81 : (t : Told) (l : List ℕ) → toldAfter t (take 81 l) ≡ toldAfter t l
+after-81 t l = ⊎-elim (λ (le : length l ≤ 80). ap (toldAfter t) (take-all 81 l (omega arith))) (λ n. long (omega arith)) (decide (leb-reads (length l) 80))
   where
-    long : 80 < length l → after t (take 81 l) ≡ after t l
+    long : 80 < length l → toldAfter t (take 81 l) ≡ toldAfter t l
     long h = let e : saidOf l ≡ Unreadable = too-long l h in after-unreadable t (take 81 l) (said-81 l ∙ e) ∙ sym (after-unreadable t l e)
 
-whole : {q : Held} {held out : List ℕ} (g : Read q held out) → finish after (ran (standing (q .run) (g .written) out) (take (q .count) held)) ≡ through after start (linesOf (joined (g .input)))
-whole g = sym (ap (finish after) (g .gives)) ∙ in-chunks after after-81 start (g .input)
+whole : {q : Held} {held out : List ℕ} (g : Read q held out) → finish toldAfter (ran (toldSoFar (q .run) (g .written) out) (take (q .count) held)) ≡ through toldAfter toldNothing (linesOf (joined (g .input)))
+whole g = sym (ap (finish toldAfter) (g .gives)) ∙ in-chunks toldAfter after-81 toldNothing (g .input)
 
-pub printed : (q : Held) (held out : List ℕ) {out′ : List ℕ} {n : ℕ} → Read q held out → Ends (λ written. finish after (ran (standing (q .run) written out) (take (q .count) held))) n out′ → Printed n out′
+pub printed : (q : Held) (held out : List ℕ) {out′ : List ℕ} {n : ℕ} → Read q held out → Concludes (λ written. finish toldAfter (ran (toldSoFar (q .run) written out) (take (q .count) held))) n out′ → Printed n out′
 unfolding answersOf
 printed q held out {out′} {n} g e = record {
   input = g .input;
@@ -120,16 +120,16 @@ printed q held out {out′} {n} g e = record {
 }
 
 -- where the answers are not more than 65,500 bytes, the first n bytes of out are all that is printed
-pub at-once : {n : ℕ} {out : List ℕ} (p : Printed n out) → length (through after start (linesOf (joined (p .input))) .answers) ≤ 65500 → take n out ≡ answersOf (joined (p .input))
+pub at-once : {n : ℕ} {out : List ℕ} (p : Printed n out) → length (through toldAfter toldNothing (linesOf (joined (p .input))) .answers) ≤ 65500 → take n out ≡ answersOf (joined (p .input))
 at-once {n} {out} p few = go (p .spilled) (p .within) (p .all)
   where
     stopped : Bool
-    stopped = through after start (linesOf (joined (p .input))) .stopped
+    stopped = through toldAfter toldNothing (linesOf (joined (p .input))) .stopped
 
     neither : (t : Bool) → cond t [] [] ++ take n out ≡ take n out
     neither true = refl
     neither false = refl
 
-    go : {w : List ℕ} → Spilled w → length w ≤ length (through after start (linesOf (joined (p .input))) .answers) → cond stopped [] w ++ take n out ≡ answersOf (joined (p .input)) → take n out ≡ answersOf (joined (p .input))
+    go : {w : List ℕ} → Spilled w → length w ≤ length (through toldAfter toldNothing (linesOf (joined (p .input))) .answers) → cond stopped [] w ++ take n out ≡ answersOf (joined (p .input)) → take n out ≡ answersOf (joined (p .input))
     go none le all = sym (neither stopped) ∙ all
     go (many h) le all = absurd (omega arith)

@@ -8,22 +8,22 @@ use Rattle.lines.specs.declared.Cut.the-variants.{Line, More}
 use Rattle.lines.specs.Chunks.{Next}
 use Rattle.lines.proofs.Running.{Running, start as run-start, at-end as run-at-end, on-line as run-on-line, on-more as run-on-more}
 use Rattle.panel_check.specs.declared.State.{State}
-use Rattle.panel_check.specs.Telling.{after}
-use Rattle.panel_check.specs.Printing.{Spilled, none, standing, Takes, Done}
+use Rattle.panel_check.specs.Telling.{toldAfter}
+use Rattle.panel_check.specs.Printing.{Spilled, none, toldSoFar, Takes, Done}
 use Rattle.panel_check.proofs.Standing.{spilled-both}
 
 module _ (chunk held₀ : List ℕ) (begun : ℕ) (r₀ : State) (out₀ : List ℕ) where
   pub record Going (held : List ℕ) (at count : ℕ) (r : State) (out : List ℕ) : Type 0 where
     pub written : List ℕ
     pub spilled : Spilled written
-    pub running : (before : List ℕ) → Running after chunk held₀ begun (standing r₀ before out₀) held at count (standing r (before ++ written) out)
+    pub running : (before : List ℕ) → Running toldAfter chunk held₀ begun (toldSoFar r₀ before out₀) held at count (toldSoFar r (before ++ written) out)
     pub fits : r .used ≤ 65536
 
   pub start : r₀ .used ≤ 65536 → begun ≤ 81 → Going held₀ 0 begun r₀ out₀
   start h few = record {
     written = [];
     spilled = none;
-    running = λ before. subst (λ b. Running after chunk held₀ begun (standing r₀ before out₀) held₀ 0 begun (standing r₀ b out₀)) (sym (append-nil before)) (run-start after chunk held₀ begun (standing r₀ before out₀) few);
+    running = λ before. subst (λ b. Running toldAfter chunk held₀ begun (toldSoFar r₀ before out₀) held₀ 0 begun (toldSoFar r₀ b out₀)) (sym (append-nil before)) (run-start toldAfter chunk held₀ begun (toldSoFar r₀ before out₀) few);
     fits = h;
   }
 
@@ -32,7 +32,7 @@ module _ (chunk held₀ : List ℕ) (begun : ℕ) (r₀ : State) (out₀ : List 
     at-end h = record {
       written = g .written;
       spilled = g .spilled;
-      whole = λ before. run-at-end after chunk held₀ begun (standing r₀ before out₀) (g .running before) h .whole;
+      whole = λ before. run-at-end toldAfter chunk held₀ begun (toldSoFar r₀ before out₀) (g .running before) h .whole;
       fits = g .fits;
       few = g .running [] .few;
     }
@@ -43,8 +43,8 @@ module _ (chunk held₀ : List ℕ) (begun : ℕ) (r₀ : State) (out₀ : List 
         written = g .written ++ t .written;
         spilled = spilled-both (g .spilled) (t .spilled);
         running = λ before.
-            run-on-line after chunk held₀ begun (standing r₀ before out₀) (g .running before) n e
-            (ap (λ b. standing q b out′) (sym (append-assoc before (g .written) (t .written))) ∙ t .told (before ++ g .written));
+            run-on-line toldAfter chunk held₀ begun (toldSoFar r₀ before out₀) (g .running before) n e
+            (ap (λ b. toldSoFar q b out′) (sym (append-assoc before (g .written) (t .written))) ∙ t .told (before ++ g .written));
         fits = t .fits;
       }
 
@@ -52,7 +52,7 @@ module _ (chunk held₀ : List ℕ) (begun : ℕ) (r₀ : State) (out₀ : List 
       on-more {k} e = record {
         written = g .written;
         spilled = g .spilled;
-        whole = λ before. run-on-more after chunk held₀ begun (standing r₀ before out₀) (g .running before) n e .whole;
+        whole = λ before. run-on-more toldAfter chunk held₀ begun (toldSoFar r₀ before out₀) (g .running before) n e .whole;
         fits = g .fits;
-        few = run-on-more after chunk held₀ begun (standing r₀ [] out₀) (g .running []) n e .few;
+        few = run-on-more toldAfter chunk held₀ begun (toldSoFar r₀ [] out₀) (g .running []) n e .few;
       }

@@ -9,7 +9,7 @@ use Rattle.sketch.specs.Sketches.{emptySketch}
 use Rattle.lines.specs.Runs.{ran, next, chunks}
 use Rattle.lines.proofs.Runs.{chunks-more}
 use Rattle.panel_check.specs.declared.Held.{Held}
-use Rattle.panel_check.specs.Telling.{start, after}
+use Rattle.panel_check.specs.Telling.{toldNothing, toldAfter}
 use Rattle.panel_check.specs.Printing.{none, Done, Read}
 use Rattle.panel_check.proofs.Standing.{spilled-both}
 
@@ -28,7 +28,7 @@ more {chunk = chunk} g n = record {
   input = g .input ++ (chunk ∷ []);
   written = g .written ++ n .written;
   spilled = spilled-both (g .spilled) (n .spilled);
-  gives = chunks-more after (ran start []) (g .input) chunk ∙ ap (λ x. next after x chunk) (g .gives) ∙ sym (n .whole (g .written));
+  gives = chunks-more toldAfter (ran toldNothing []) (g .input) chunk ∙ ap (λ x. next toldAfter x chunk) (g .gives) ∙ sym (n .whole (g .written));
   fits = n .fits;
   few = n .few;
 }

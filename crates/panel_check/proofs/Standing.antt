@@ -21,9 +21,9 @@ use Rattle.sketch.specs.declared.Sketch.{Sketch}
 use Rattle.sketch.specs.declared.Added.{Added}
 use Rattle.sketch.specs.Sketches.{emptySketch, addedOf}
 use Rattle.panel_check.specs.declared.State.{State}
-use Rattle.panel_check.specs.Answers.{answerOf, isEnd, nextOf}
-use Rattle.panel_check.specs.Telling.{checked, after}
-use Rattle.panel_check.specs.Printing.{Spilled, none, many, keptOf, standing, Answers, Takes}
+use Rattle.panel_check.specs.Answers.{verdictLine, isEnd, nextNumber}
+use Rattle.panel_check.specs.Telling.{verdictOf, toldAfter}
+use Rattle.panel_check.specs.Printing.{Spilled, none, many, keptOf, toldSoFar, Appended, Takes}
 
 pub spilled-both : {v w : List ℕ} → Spilled v → Spilled w → Spilled (v ++ w)
 spilled-both none s = s
@@ -47,19 +47,19 @@ kept-few used = ⊎-elim (λ (le : used ≤ 65500). rw (le-leb _ _ le) le) (λ n
     spill lt = let e : keptOf used ≡ 0 = rw (lt-leb _ _ lt) in omega (arith, e)
 
 module _ {d : Drawing} {used : ℕ} {out : List ℕ} (h : used ≤ 65536) (long : length out ≡ 65536) where
-  answers-kept : {n : ℕ} {out′ : List ℕ} → Put out (keptOf used) (checked d) out′ n → n ≤ keptOf used + 36 → Answers d used out n out′
+  answers-kept : {n : ℕ} {out′ : List ℕ} → Put out (keptOf used) (verdictOf d) out′ n → n ≤ keptOf used + 36 → Appended d used out n out′
   answers-kept {n} {out′} p few = ⊎-elim short (λ k. spill (omega arith)) (decide (leb-reads used 65500))
     where
-      short : used ≤ 65500 → Answers d used out n out′
+      short : used ≤ 65500 → Appended d used out n out′
       short le =
           let e : keptOf used ≡ used = rw (le-leb _ _ le) in
-          let q : Put out used (checked d) out′ n = subst (λ k. Put out k (checked d) out′ n) e p in
+          let q : Put out used (verdictOf d) out′ n = subst (λ k. Put out k (verdictOf d) out′ n) e p in
           record { written = []; spilled = none; within = omega arith; all = put-front q (omega (arith, e)); fits = omega (arith, e) }
 
-      spill : 65500 < used → Answers d used out n out′
+      spill : 65500 < used → Appended d used out n out′
       spill lt =
           let e : keptOf used ≡ 0 = rw (lt-leb _ _ lt) in
-          let q : Put out 0 (checked d) out′ n = subst (λ k. Put out k (checked d) out′ n) e p in
+          let q : Put out 0 (verdictOf d) out′ n = subst (λ k. Put out k (verdictOf d) out′ n) e p in
           record {
             written = take used out;
             spilled = many {w = take used out} (omega (arith, length-take-le used out (omega arith)));
@@ -69,38 +69,38 @@ module _ {d : Drawing} {used : ℕ} {out : List ℕ} (h : used ≤ 65536) (long 
           }
 
   pub answers : {at n : ℕ} {k : Checked} {out′ : List ℕ} → at ≡ keptOf used → k ≡ checkOf d
-      → Put out at (answerOf (k .rule) (k .first) (k .second)) out′ n × (n ≤ at + 36) → Answers d used out n out′
+      → Put out at (verdictLine (k .rule) (k .first) (k .second)) out′ n × (n ≤ at + 36) → Appended d used out n out′
   answers {at} {n} {k} {out′} ea ek p =
       answers-kept
-      (subst (λ a. Put out a (checked d) out′ n) ea (subst (λ (k : Checked). Put out at (answerOf (k .rule) (k .first) (k .second)) out′ n) ek (p .0)))
+      (subst (λ a. Put out a (verdictOf d) out′ n) ea (subst (λ (k : Checked). Put out at (verdictLine (k .rule) (k .first) (k .second)) out′ n) ek (p .0)))
       (omega (arith, ea, p .1))
 
 -- ---- one line
 
 module _ {r : State} {line out : List ℕ} where
   pub stays : r .used ≤ 65536 → r .stopped ≡ true → Takes r line out r out
-  unfolding after
+  unfolding toldAfter
   stays h e = record { written = []; spilled = none; told = λ before. rw (append-nil before, e); fits = h }
 
-  module _ (going : r .stopped ≡ false) {number : ℕ} {what : Said} {t : Bool} (counted : number ≡ nextOf (r .lines)) (reads : what ≡ saidOf line) (is : t ≡ isEnd what) where
-    pub ends : {n : ℕ} {out′ : List ℕ} {k : Sketch} → t ≡ true → Answers (r .sketch .drawing) (r .used) out n out′ → k ≡ emptySketch
+  module _ (going : r .stopped ≡ false) {number : ℕ} {what : Said} {t : Bool} (counted : number ≡ nextNumber (r .lines)) (reads : what ≡ saidOf line) (is : t ≡ isEnd what) where
+    pub ends : {n : ℕ} {out′ : List ℕ} {k : Sketch} → t ≡ true → Appended (r .sketch .drawing) (r .used) out n out′ → k ≡ emptySketch
         → Takes r line out (record { sketch = k; begun = false; lines = number; stopped = false; used = n }) out′
-    unfolding after
+    unfolding toldAfter
     ends {n} {out′} {k} there a ek =
         let e : isEnd (saidOf line) ≡ true = sym (is ∙ ap isEnd reads) ∙ there in
         record {
           written = a .written;
           spilled = a .spilled;
           told = λ before.
-              let all : (before ++ a .written) ++ take n out′ ≡ (before ++ take (r .used) out) ++ checked (r .sketch .drawing) =
-              append-assoc before (a .written) (take n out′) ∙ ap (λ l. before ++ l) (a .all) ∙ sym (append-assoc before (take (r .used) out) (checked (r .sketch .drawing))) in
+              let all : (before ++ a .written) ++ take n out′ ≡ (before ++ take (r .used) out) ++ verdictOf (r .sketch .drawing) =
+              append-assoc before (a .written) (take n out′) ∙ ap (λ l. before ++ l) (a .all) ∙ sym (append-assoc before (take (r .used) out) (verdictOf (r .sketch .drawing))) in
               rw (going, e) (λ i. record { sketch = ek i; begun = false; lines = counted i; stopped = false; answers = all i });
           fits = a .fits;
         }
 
     pub grows : {a : Added} → r .used ≤ 65536 → t ≡ false → a ≡ addedOf (r .sketch) line what
         → Takes r line out (record { sketch = a .sketch; begun = true; lines = number; stopped = not (a .held); used = r .used }) out
-    unfolding after
+    unfolding toldAfter
     grows {a} h there ea =
         let e : isEnd (saidOf line) ≡ false = sym (is ∙ ap isEnd reads) ∙ there in
         let added : a ≡ addedOf (r .sketch) line (saidOf line) = ea ∙ ap (addedOf (r .sketch) line) reads in

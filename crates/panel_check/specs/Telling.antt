@@ -11,7 +11,7 @@ use Rattle.sketch.specs.declared.Added.{Added}
 use Rattle.sketch.specs.Sketches.{emptySketch, addedOf}
 use Rattle.lines.specs.Lines.{linesOf}
 use Rattle.lines.specs.Runs.{through}
-use Rattle.panel_check.specs.Answers.{answerOf, unreadableOf, isEnd, nextOf}
+use Rattle.panel_check.specs.Answers.{verdictLine, unreadableOf, isEnd, nextNumber}
 
 -- How far the lines are told: the drawing that has begun, if it has a line; the number of the last line, and whether no row can hold
 -- it; and the answers to the drawings before.
@@ -22,35 +22,36 @@ pub record Told : Type 0 where
   pub stopped : Bool
   pub answers : List ℕ
 
-abbrev pub start : Told
-start = record { sketch = emptySketch; begun = false; lines = 0; stopped = false; answers = [] }
+-- before the first line
+abbrev pub toldNothing : Told
+toldNothing = record { sketch = emptySketch; begun = false; lines = 0; stopped = false; answers = [] }
 
 -- the answer to a drawing
-abbrev pub checked : Drawing → List ℕ
-checked d = answerOf (checkOf d .rule) (checkOf d .first) (checkOf d .second)
+abbrev pub verdictOf : Drawing → List ℕ
+verdictOf d = verdictLine (checkOf d .rule) (checkOf d .first) (checkOf d .second)
 
 -- a line `.`: the drawing is answered, and the next has no row yet
 abbrev pub ended : Told → Told
 ended t = record {
   sketch = emptySketch;
   begun = false;
-  lines = nextOf (t .lines);
+  lines = nextNumber (t .lines);
   stopped = false;
-  answers = t .answers ++ checked (t .sketch .drawing);
+  answers = t .answers ++ verdictOf (t .sketch .drawing);
 }
 
 -- a line of the drawing, as it was added to the sketch or not
-abbrev pub grown : Told → Added → Told
-grown t a = record { sketch = a .sketch; begun = true; lines = nextOf (t .lines); stopped = not (a .held); answers = t .answers }
+abbrev pub withLine : Told → Added → Told
+withLine t a = record { sketch = a .sketch; begun = true; lines = nextNumber (t .lines); stopped = not (a .held); answers = t .answers }
 
 -- a line more; behind a line that no row can hold none is looked at
-unfoldable pub after : Told → List ℕ → Told
-after t line = cond (t .stopped) t (cond (isEnd (saidOf line)) (ended t) (grown t (addedOf (t .sketch) line (saidOf line))))
+unfoldable pub toldAfter : Told → List ℕ → Told
+toldAfter t line = cond (t .stopped) t (cond (isEnd (saidOf line)) (ended t) (withLine t (addedOf (t .sketch) line (saidOf line))))
 
 -- the end of the input: the unreadable line alone; or the answers, with that to a last drawing without `.`, if it has a line
 unfoldable pub concluded : Told → List ℕ
-concluded t = cond (t .stopped) (unreadableOf (t .lines)) (t .answers ++ cond (t .begun) (checked (t .sketch .drawing)) [])
+concluded t = cond (t .stopped) (unreadableOf (t .lines)) (t .answers ++ cond (t .begun) (verdictOf (t .sketch .drawing)) [])
 
 -- what is printed for a whole input
 unfoldable pub answersOf : List ℕ → List ℕ
-answersOf input = concluded (through after start (linesOf input))
+answersOf input = concluded (through toldAfter toldNothing (linesOf input))

@@ -2,7 +2,7 @@
 ghost use mathlib.Core.Path.{_≡_};
 ghost use Prim.Native.Nat.{_+_, _≤_};
 ghost use Rattle.text.specs.Text.{Put};
-ghost use Rattle.panel_check.specs.Answers.{answerOf, unreadableOf, isEnd, nextOf};
+ghost use Rattle.panel_check.specs.Answers.{verdictLine, unreadableOf, isEnd, nextNumber};
 use check_script::Said;
 use text::put_byte;
 use text::put_bytes;
@@ -11,7 +11,7 @@ use text::put_decimal;
 // `rule first second`
 pub fn put_checked(out: &mut [u8], at: usize, rule: u8, first: u16, second: u16) -> usize
     requires { ⌜ at ≤ 900000 ⌝ }
-    ensures { λ r. ⌜ Put (now (out .entry)) at (answerOf rule first second) (now (out .exit)) r × (r ≤ at + 36) ⌝ }
+    ensures { λ r. ⌜ Put (now (out .entry)) at (verdictLine rule first second) (now (out .exit)) r × (r ≤ at + 36) ⌝ }
 {
     let p = put_decimal(out, at, rule as u32);
     let p = put_byte(out, p, b' ');
@@ -58,7 +58,7 @@ pub fn is_end(said: Said) -> bool
 
 // The number of the next line.
 pub fn next_number(n: u32) -> u32
-    ensures { λ r. ⌜ r ≡ nextOf n ⌝ }
+    ensures { λ r. ⌜ r ≡ nextNumber n ⌝ }
 {
     if n < u32::MAX {
         return n + 1;

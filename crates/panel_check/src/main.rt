@@ -5,8 +5,8 @@ ghost use mathlib.Core.Path.{_≡_};
 ghost use Prim.Native.Nat.{_≤_};
 ghost use lib.ListN.{length, take};
 ghost use Rattle.lines.specs.Runs.{ran, finish};
-ghost use Rattle.panel_check.specs.Telling.{after};
-ghost use Rattle.panel_check.specs.Printing.{keptOf, standing, Answers, Takes, Done, Read, Ends, Printed};
+ghost use Rattle.panel_check.specs.Telling.{toldAfter};
+ghost use Rattle.panel_check.specs.Printing.{keptOf, toldSoFar, Appended, Takes, Done, Read, Concludes, Printed};
 use answers::is_end;
 use answers::next_number;
 use answers::put_checked;
@@ -53,7 +53,7 @@ fn room(out: &[u8], used: usize) -> usize
 // The answer to a drawing, behind those that wait; and how many bytes wait then.
 fn answer(d: Drawing, used: usize, out: &mut [u8]) -> usize
     requires { ⌜ used ≤ 65536 ⌝ ∗ ⌜ length (now out) ≡ 65536 ⌝ }
-    ensures { λ n. ⌜ Answers d used (now (out .entry)) n (now (out .exit)) ⌝ }
+    ensures { λ n. ⌜ Appended d used (now (out .entry)) n (now (out .exit)) ⌝ }
 {
     let at = room(out, used);
     let k = check(d);
@@ -120,7 +120,7 @@ fn take_chunk(run: State, chunk: &[u8], held: &mut [u8], begun: usize, out: &mut
 // The end of the input: a drawing that has begun is answered, or the unreadable line told alone. So many bytes are left to write.
 fn tell(r: State, out: &mut [u8]) -> usize
     requires { ⌜ r .used ≤ 65536 ⌝ ∗ ⌜ length (now out) ≡ 65536 ⌝ }
-    ensures { λ n. ⌜ Ends (λ written. standing r written (now (out .entry))) n (now (out .exit)) ⌝ }
+    ensures { λ n. ⌜ Concludes (λ written. toldSoFar r written (now (out .entry))) n (now (out .exit)) ⌝ }
 {
     if r.stopped {
         return put_unreadable(out, r.lines);
@@ -136,7 +136,7 @@ fn tell(r: State, out: &mut [u8]) -> usize
 // A last line without a newline, if it is not empty, and then the end.
 fn finish(r: State, held: &[u8], count: usize, out: &mut [u8]) -> usize
     requires { ⌜ r .used ≤ 65536 ⌝ ∗ ⌜ count ≤ length (now held) ⌝ ∗ ⌜ length (now out) ≡ 65536 ⌝ }
-    ensures { λ n. ⌜ Ends (λ written. finish after (ran (standing r written (now (out .entry))) (take count (now (held .entry))))) n (now (out .exit)) ⌝ }
+    ensures { λ n. ⌜ Concludes (λ written. finish toldAfter (ran (toldSoFar r written (now (out .entry))) (take count (now (held .entry))))) n (now (out .exit)) ⌝ }
 {
     if count > 0 {
         let last = take_line(r, &held[..count], out);

@@ -11,7 +11,7 @@ use Rattle.sheet.specs.declared.Drawing.{Drawing}
 use Rattle.sheet.specs.Rules.{Lawful}
 use Rattle.lines.specs.Lines.{newline}
 use Rattle.lines.specs.Chunks.{hold}
-use Rattle.lines.specs.Runs.{Ran, ran, run}
+use Rattle.lines.specs.Runs.{Ran, ran, throughChunk}
 use Rattle.lines.proofs.Runs.{run-end}
 use Rattle.step.specs.Steps.{After}
 use Rattle.step.specs.Redrawing.{redrawn, Done}
@@ -22,10 +22,10 @@ use Rattle.panel_list.specs.Printing.{after, andThen, Takes}
 abbrev drawingOf : Ran After → Ran Drawing
 drawingOf (ran a held) = ran (a .drawing) held
 
-apart : (a : After) (held s : List ℕ) → run redrawn (a .drawing) held s ≡ drawingOf (run andThen a held s)
-unfolding run
+apart : (a : After) (held s : List ℕ) → throughChunk redrawn (a .drawing) held s ≡ drawingOf (throughChunk andThen a held s)
+unfolding throughChunk
 apart a held [] = refl
-apart a held (b ∷ s) = go (eqb b newline) (run andThen (andThen a held) [] s) (run andThen a (hold held b) s) (apart (andThen a held) [] s) (apart a (hold held b) s)
+apart a held (b ∷ s) = go (eqb b newline) (throughChunk andThen (andThen a held) [] s) (throughChunk andThen a (hold held b) s) (apart (andThen a held) [] s) (apart a (hold held b) s)
   where
     go : (t : Bool) (u v : Ran After) {x y : Ran Drawing} → x ≡ drawingOf u → y ≡ drawingOf v → cond t x y ≡ drawingOf (cond t u v)
     go true u v p q = p
@@ -33,7 +33,7 @@ apart a held (b ∷ s) = go (eqb b newline) (run andThen (andThen a held) [] s) 
 
 module _ (chunk held₀ : List ℕ) (begun : ℕ) (d₀ : Drawing) where
   pub record Chunked (held : List ℕ) (at count : ℕ) (d : Drawing) : Type 0 where
-    pub left : run redrawn d (take count held) (drop at chunk) ≡ run redrawn d₀ (take begun held₀) chunk
+    pub left : throughChunk redrawn d (take count held) (drop at chunk) ≡ throughChunk redrawn d₀ (take begun held₀) chunk
     pub lawful : Lawful d
     pub inside : at ≤ length chunk
     pub few : count ≤ 81
@@ -58,7 +58,7 @@ module _ (chunk held₀ : List ℕ) (begun : ℕ) (d₀ : Drawing) where
           let u = goes-on in
           let x : After = after (r .drawing) (take (r .used) out′) in
           record {
-            left = ap (λ s. run redrawn (r .drawing) (take (r .count) held′) s) (sym (drop-drop (r .at) at chunk))
+            left = ap (λ s. throughChunk redrawn (r .drawing) (take (r .count) held′) s) (sym (drop-drop (r .at) at chunk))
                 ∙ apart x (take (r .count) held′) (drop (r .at) (drop at chunk))
                 ∙ ap drawingOf (u .left)
                 ∙ sym (apart (after d []) (take count held) (drop at chunk))

@@ -8,7 +8,7 @@ use Rattle.sheet.specs.declared.Drawing.{Drawing}
 use Rattle.sheet.specs.Rules.{Lawful}
 use Rattle.lines.specs.declared.Cut.{Cut}
 use Rattle.lines.specs.declared.Cut.the-variants.{Line, More}
-use Rattle.lines.specs.Chunks.{Next, Within}
+use Rattle.lines.specs.Chunks.{Next, CutFits}
 use Rattle.lines.proofs.Running.{Running, start as run-start, on-line as run-line, on-more as run-more}
 use Rattle.lines.proofs.Runs.{run-end}
 use Rattle.step.specs.declared.Stepped.{Stepped}
@@ -42,7 +42,7 @@ module _ (chunk held₀ : List ℕ) (begun : ℕ) (d₀ : Drawing) where
     module _ {a : Cut} {held′ : List ℕ} (n : Next chunk at held count a held′) where
       pub on-line : {k next : ℕ} {r : Stepped} {out′ : List ℕ} → a ≡ Line k next → Prints d (take k held′) used out r out′ → Going held′ next 0 (r .drawing) (r .length) out′
       on-line {k} {next} e p =
-          let w : Within at (length chunk) (Line k next) = rw e at n .within in
+          let w : CutFits at (length chunk) (Line k next) = rw e at n .within in
           record { running = run-line andThen chunk held₀ begun (after d₀ []) (g .running) n e (p .told); lawful = p .lawful; fits = p .fits; first = λ z. absurd (omega (arith, w .1)) }
 
       -- no line ends in what is left of the chunk: it is all taken

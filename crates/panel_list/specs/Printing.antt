@@ -6,7 +6,7 @@ use lib.ListN.{length, take, drop}
 use Rattle.sheet.specs.declared.Drawing.{Drawing}
 use Rattle.sheet.specs.Drawings.{emptySheet, drawn}
 use Rattle.sheet.specs.Rules.{Lawful}
-use Rattle.lines.specs.Runs.{ran, run, chunks}
+use Rattle.lines.specs.Runs.{ran, throughChunk, chunks}
 use Rattle.step.specs.declared.Stepped.{Stepped}
 use Rattle.step.specs.Steps.{After, stepOf}
 use Rattle.step.specs.Redrawing.{redrawn}
@@ -32,7 +32,7 @@ pub record Prints (d : Drawing) (line : List ℕ) (used : ℕ) (out : List ℕ) 
 -- Lines of a chunk were taken, behind `held`: with the drawing, the bytes held and the bytes printed (in front of out′) that this
 -- left, running the rest of the chunk is running the whole. More of the chunk is done than before, if there was any.
 pub record Takes (d : Drawing) (chunk held : List ℕ) (count : ℕ) (r : Taken) (held′ out′ : List ℕ) : Type 0 where
-  pub left : run andThen (after (r .drawing) (take (r .used) out′)) (take (r .count) held′) (drop (r .at) chunk) ≡ run andThen (after d []) (take count held) chunk
+  pub left : throughChunk andThen (after (r .drawing) (take (r .used) out′)) (take (r .count) held′) (drop (r .at) chunk) ≡ throughChunk andThen (after d []) (take count held) chunk
   pub lawful : Lawful (r .drawing)
   pub inside : r .at ≤ length chunk
   pub more : 0 < length chunk → 0 < r .at

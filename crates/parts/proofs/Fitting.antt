@@ -12,7 +12,7 @@ use Rattle.lists.proofs.Lists.{keep-old, insert-in}
 use Rattle.lists.proofs.Tables.{row-in, holds-list}
 use Rattle.orientation.specs.declared.RotMirror.{RotMirror}
 use Rattle.orientation.specs.declared.Turned.{Turned}
-use Rattle.orientation.specs.Orientations.{known, turnedBy, done}
+use Rattle.orientation.specs.Orientations.{known, turnedBy, turnIs}
 use Rattle.sheet.specs.declared.Component.{Component}
 use Rattle.sheet.specs.declared.Components.{Components}
 use Rattle.sheet.specs.Parts.{PartFits, ahead, reoriented}
@@ -24,7 +24,7 @@ pub row-fits : {t : Components} {i : ℕ} (d : Component) → PartsFit t → len
 row-fits {t} {i} d h e b = h .each (getD (t .rows) i d) (row-in (t .rows) (t .count) i d b (omega (arith, h .room)))
 
 -- a known orientation is turned, not refused
-pub known-turned : (f : RotMirror → RotMirror) (o : RotMirror) → T (known o) → turnedBy f o ≡ done (f o)
+pub known-turned : (f : RotMirror → RotMirror) (o : RotMirror) → T (known o) → turnedBy f o ≡ turnIs (f o)
 unfolding turnedBy
 known-turned f o t = rw (true-is (known o) t)
   where

@@ -14,7 +14,7 @@ use Rattle.sheet.specs.Parts.{pads}
 use Rattle.sheet.proofs.Parts.{length-pads}
 use Rattle.wires.specs.declared.Points.{Points}
 use Rattle.wires.specs.Tables.{pointRows}
-use Rattle.parts.specs.Tables.{Block, Listed}
+use Rattle.parts.specs.Tables.{Block, TabledPoints}
 
 pub pad-block : (c : Component) {b : PadBlock} → b ≡ padBlock (c .kind) (c .«rot_mirror») (c .x) (c .y) → Block (pads c) b
 unfolding pads
@@ -25,11 +25,11 @@ pad-block c e = subst (Block (pads c)) (sym e) (record {
   points-are = take-take (length (pads c)) 3 (pads c ++ (unused ∷ unused ∷ unused ∷ [])) (length-pads c) ∙ take-append-seam (pads c) (unused ∷ unused ∷ unused ∷ []);
 })
 
-pub lists-none : Listed [] (record { rows = replicate 384 unused; count = 0 })
+pub lists-none : TabledPoints [] (record { rows = replicate 384 unused; count = 0 })
 lists-none = record { size = length-replicate 384 unused; room = omega arith; count-is = refl; points-are = refl }
 
-pub lists-block : {ps qs : List Point} {t : Points} {b : PadBlock} (z : Point) → Listed ps t → Block qs b → t .count + 3 ≤ 384
-    → Listed (ps ++ qs) (record { rows = set (set (set (t .rows) (t .count) (getD (b .points) 0 z)) (t .count + 1) (getD (b .points) 1 z)) (t .count + 2) (getD (b .points) 2 z); count = t .count + b .count })
+pub lists-block : {ps qs : List Point} {t : Points} {b : PadBlock} (z : Point) → TabledPoints ps t → Block qs b → t .count + 3 ≤ 384
+    → TabledPoints (ps ++ qs) (record { rows = set (set (set (t .rows) (t .count) (getD (b .points) 0 z)) (t .count + 1) (getD (b .points) 1 z)) (t .count + 2) (getD (b .points) 2 z); count = t .count + b .count })
 lists-block {ps} {qs} {t} {b} z h k r =
     let p = getD (b .points) 0 z in
     let q = getD (b .points) 1 z in

@@ -38,7 +38,7 @@ pub record Block (ps : List Point) (b : PadBlock) : Type 0 where
   pub points-are : take (b .count) (b .points) ≡ ps
 
 -- the table lists the points; what lies behind them does not count
-pub record Listed (ps : List Point) (t : Points) : Type 0 where
+pub record TabledPoints (ps : List Point) (t : Points) : Type 0 where
   pub size : length (t .rows) ≡ 384
   pub room : t .count ≤ 384
   pub count-is : t .count ≡ length ps

@@ -5,7 +5,7 @@ ghost use lib.ListN.{length};
 ghost use Rattle.symbol.specs.Symbols.{padsAt};
 ghost use Rattle.sheet.specs.Parts;
 ghost use Rattle.sheet.specs.Drawings.{componentRows};
-ghost use Rattle.parts.specs.Tables.{PartsFit, Block, Listed};
+ghost use Rattle.parts.specs.Tables.{PartsFit, Block, TabledPoints};
 use sheet::Component;
 use sheet::Components;
 use symbol::PadBlock;
@@ -25,7 +25,7 @@ pub fn pads_of(c: Component) -> PadBlock
 // The pads of all components, in row order.
 pub fn all_pads(cs: Components) -> Points
     requires { ⌜ PartsFit cs ⌝ }
-    ensures { λ r. ⌜ Listed (Parts.padsOf (componentRows cs)) r ⌝ }
+    ensures { λ r. ⌜ TabledPoints (Parts.padsOf (componentRows cs)) r ⌝ }
 {
     let zero = Point { x: 0, y: 0 };
     let rows = [zero; 384];

@@ -17,14 +17,14 @@ use Rattle.sheet.specs.declared.Drawing.{Drawing}
 use Rattle.sheet.specs.declared.Tally.{Tally}
 use Rattle.sheet.specs.Parts.{touches}
 use Rattle.sheet.specs.Drawings.{listsOf}
-use Rattle.sheet.specs.Edits.{Outcome, wire, place}
+use Rattle.sheet.specs.Edits.{Outcome, wire, placeOne}
 use Rattle.asked.specs.declared.AskedWire.{AskedWire}
 use Rattle.asked.specs.declared.AskedPart.{AskedPart}
 use Rattle.asked.specs.declared.AskedPointer.{AskedPointer}
 use Rattle.asked.specs.Asked.{ranged, wireAt, noWire, askedWire, componentAt, noPart, askedPart, pointAt, noPointer, askedPointer}
 use Rattle.edits.specs.Making.{quiet}
 use Rattle.redraw.specs.declared.Edited.{Edited}
-use Rattle.redraw.specs.Calls.{refused, unless, edited, addWire, addComponent, pointed}
+use Rattle.redraw.specs.Calls.{refused, refusedUnless, edited, addWire, addComponent, pointed}
 
 -- the reply n decides the call: refused, or x
 pub record Decides (d : Drawing) (t : Tally) (n : ℕ) (x call : Edited) : Type 0 where
@@ -58,7 +58,7 @@ wire-decides d v l s e t q = subst (λ (a : AskedWire). Decides d t (a .reply) (
 
 -- the component that is asked for is refused if it touches another
 abbrev pub untouched : Drawing → Tally → AskedPart → Edited
-untouched d t a = unless (not (any (touches (a .part)) (listsOf d .parts))) 6 d t (edited d t (quiet (place (a .part) (listsOf d))))
+untouched d t a = refusedUnless (not (any (touches (a .part)) (listsOf d .parts))) 6 d t (edited d t (quiet (placeOne (a .part) (listsOf d))))
 
 pub part-decides : (d : Drawing) (k : ℕ) (o : RotMirror) (x y : ℤ) (l : Label) (t : Tally) {a : AskedPart} → a ≡ askedPart k o x y l → Decides d t (a .reply) (untouched d t a) (addComponent d k o x y l t)
 unfolding addComponent askedPart
@@ -80,7 +80,7 @@ module _ (d : Drawing) (t : Tally) (a : AskedPart) where
   pub touched-refused : any (touches (a .part)) (listsOf d .parts) ≡ true → refused 6 d t ≡ untouched d t a
   touched-refused e = rw e
 
-  pub untouched-edited : any (touches (a .part)) (listsOf d .parts) ≡ false → edited d t (quiet (place (a .part) (listsOf d))) ≡ untouched d t a
+  pub untouched-edited : any (touches (a .part)) (listsOf d .parts) ≡ false → edited d t (quiet (placeOne (a .part) (listsOf d))) ≡ untouched d t a
   untouched-edited e = rw e
 
 pub pointer-decides : (d : Drawing) (x y n : ℤ) (t : Tally) (edit : Point → ℕ → Outcome) {a : AskedPointer} → a ≡ askedPointer x y n → Decides d t (a .reply) (edited d t (edit (a .point) (a .size))) (pointed d x y n t edit)

@@ -13,7 +13,7 @@ use Rattle.sheet.specs.declared.Drawing.{Drawing}
 use Rattle.sheet.specs.declared.Tally.{Tally}
 use Rattle.sheet.specs.Parts.{PartFits}
 use Rattle.sheet.specs.Drawings.{Sheet, emptySheet, joints, wireTable, componentTable, jointTable, listsOf, drawn, tallyOf}
-use Rattle.sheet.specs.Wiring.{Room}
+use Rattle.sheet.proofs.Wiring.{Roomy}
 use Rattle.sheet.specs.Edits.{Outcome}
 use Rattle.sheet.proofs.Rules.{drawn-lists}
 use Rattle.wires.specs.Tables.{Tabled}
@@ -23,14 +23,14 @@ use Rattle.edits.specs.declared.Made.{Made}
 use Rattle.edits.specs.Making.{tables, made}
 use Rattle.edits.proofs.Making.{roomy-reads, made-room, made-none}
 use Rattle.redraw.specs.declared.Edited.{Edited}
-use Rattle.redraw.specs.Calls.{refused, done, edited}
+use Rattle.redraw.specs.Calls.{refused, editDone, edited}
 
 module _ (d : Drawing) (t : Tally) (o : Outcome) where
-  pub edited-room : Room (o .sheet) → edited d t o ≡ done o
+  pub edited-room : Roomy (o .sheet) → edited d t o ≡ editDone o
   unfolding edited
-  edited-room r = choose (roomy-reads (o .sheet)) (λ (x : Edited). x ≡ done o) (λ _. refl) (λ f. absurd (f r))
+  edited-room r = choose (roomy-reads (o .sheet)) (λ (x : Edited). x ≡ editDone o) (λ _. refl) (λ f. absurd (f r))
 
-  pub edited-none : (Room (o .sheet) → ⊥) → edited d t o ≡ refused 7 d t
+  pub edited-none : (Roomy (o .sheet) → ⊥) → edited d t o ≡ refused 7 d t
   unfolding edited
   edited-none f = choose (roomy-reads (o .sheet)) (λ (x : Edited). x ≡ refused 7 d t) (λ r. absurd (f r)) (λ _. refl)
 
@@ -40,7 +40,7 @@ tables-sheet : (s : Sheet) → sheetOf (wireTable (s .wires)) (componentTable (s
 unfolding drawn
 tables-sheet s = drawn-lists s
 
-tables-sound : (s : Sheet) → Room s → ((c : Component) → c ∈ s .parts → PartFits c) → Sound (wireTable (s .wires)) (componentTable (s .parts))
+tables-sound : (s : Sheet) → Roomy s → ((c : Component) → c ∈ s .parts → PartFits c) → Sound (wireTable (s .wires)) (componentTable (s .parts))
 tables-sound s r fits =
     let w : Tabled (s .wires) (wireTable (s .wires)) = record { rows-are = refl; count-is = refl; room = r .wires } in
     let p : TabledParts (s .parts) (componentTable (s .parts)) = record { rows-are = refl; count-is = refl; room = r .parts } in
@@ -65,7 +65,7 @@ module _ (d : Drawing) (t : Tally) {e : Made} (o : Outcome) (q : e ≡ made o) w
   pub finished-full : e .full ≡ true → refused 7 d t ≡ edited d t o
   finished-full f = sym (edited-none d t o (λ r. clash f (ap (λ (x : Made). x .full) (q ∙ made-room o r))))
 
-  has-room : e .full ≡ false → Room (o .sheet)
+  has-room : e .full ≡ false → Roomy (o .sheet)
   has-room f = stable (roomy-reads (o .sheet)) (λ n. clash (ap (λ (x : Made). x .full) (q ∙ made-none o n)) f)
 
   pub finished-room : {w : Drawing} {u : Tally} → e .full ≡ false → w ≡ drawn (sheetOf (e .wires) (e .parts)) → u ≡ tallyOf (listsOf w) → _≡_ {A = Edited} (record { reply = 0; tally = u; drawing = w; hit = e .hit; lost = e .lost }) (edited d t o)

@@ -19,7 +19,7 @@ use Rattle.sheet.specs.declared.Drawing.{Drawing}
 use Rattle.sheet.specs.declared.Tally.{Tally}
 use Rattle.sheet.specs.Parts.{padsOf, turnedRight, mirrored}
 use Rattle.sheet.specs.Drawings.{Sheet, Sized, listsOf, drawn, tallyOf}
-use Rattle.sheet.specs.Wiring.{Room}
+use Rattle.sheet.proofs.Wiring.{Roomy}
 use Rattle.sheet.specs.Rules.{Lawful}
 use Rattle.sheet.specs.Edits.{wire, remove, delete, meetsPart, meetsWire, hits, turnRight, mirror}
 use Rattle.sheet.proofs.Rules.{lawful-good, lawful-room, lawful-drawn, drawn-lists}
@@ -34,7 +34,7 @@ use Rattle.redraw.specs.declared.Edited.{Edited}
 use Rattle.redraw.specs.declared.pointer.Act.{Act}
 use Rattle.redraw.specs.declared.pointer.Act.the-variants.{Delete, TurnRight, Mirror}
 use Rattle.redraw.specs.Acts.{acted}
-use Rattle.redraw.specs.Calls.{unless, edited, addWire, pointed, deleteAt, mirrorAt}
+use Rattle.redraw.specs.Calls.{refusedUnless, edited, addWire, pointed, deleteAt, mirrorAt}
 use Rattle.redraw.proofs.Finishing.{edited-room}
 use Rattle.redraw.proofs.Asking.{wire-decides, pointer-decides}
 use Rattle.redraw.proofs.Laws.{by-reply, by-room}
@@ -45,8 +45,8 @@ Outweighed e = e .lost ≤ e .hit
 abbrev Lossless : Edited → Type 0
 Lossless e = e .lost ≡ 0
 
-abbrev Roomy : Edited → Type 0
-Roomy e = e .reply ≡ 7 → ⊥
+abbrev NotFull : Edited → Type 0
+NotFull e = e .reply ≡ 7 → ⊥
 
 below-seven : (n : ℕ) → n < 7 → n ≡ 7 → ⊥
 below-seven n h e = omega arith
@@ -77,7 +77,7 @@ module _ {d : Drawing} (l : Lawful d) (t : Tally) where
 
   -- ---- a delete always has room
 
-  delete-room : (p : Point) (n : ℕ) → Room (delete p n (listsOf d))
+  delete-room : (p : Point) (n : ℕ) → Roomy (delete p n (listsOf d))
   unfolding delete
   delete-room p n = record {
     wires = omega (arith, remove-no-longer (meetsWire p n) (meetsPart p n) (listsOf d), lawful-room l .wires);
@@ -88,9 +88,9 @@ module _ {d : Drawing} (l : Lawful d) (t : Tally) where
   unfolding deleteAt pointed
   delete-roomy x y n =
       let o = quiet (delete (pointAt x y) (toℕ n) (listsOf d)) in
-      go (ranged 6000 x && ranged 6000 y) (eqb (sizedReply (sizeOf n)) 0) (edited d t o) (subst Roomy (sym (edited-room d t o (delete-room (pointAt x y) (toℕ n)))) (below-seven 0 (omega arith)))
+      go (ranged 6000 x && ranged 6000 y) (eqb (sizedReply (sizeOf n)) 0) (edited d t o) (subst NotFull (sym (edited-room d t o (delete-room (pointAt x y) (toℕ n)))) (below-seven 0 (omega arith)))
     where
-      go : (a b : Bool) (e : Edited) → Roomy e → Roomy (unless a 1 d t (unless b 3 d t e))
+      go : (a b : Bool) (e : Edited) → NotFull e → NotFull (refusedUnless a 1 d t (refusedUnless b 3 d t e))
       go true true e r = r
       go true false e r = below-seven 3 (omega arith)
       go false b e r = below-seven 1 (omega arith)

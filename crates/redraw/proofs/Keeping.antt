@@ -11,9 +11,9 @@ use Rattle.sheet.specs.declared.Component.{Component}
 use Rattle.sheet.specs.declared.Drawing.{Drawing}
 use Rattle.sheet.specs.Parts.{PartFits, touches}
 use Rattle.sheet.specs.Drawings.{Sheet, Sized}
-use Rattle.sheet.specs.Wiring.{Good}
+use Rattle.sheet.proofs.Wiring.{Good}
 use Rattle.sheet.specs.Rules.{Lawful}
-use Rattle.sheet.specs.Edits.{place}
+use Rattle.sheet.specs.Edits.{placeOne}
 use Rattle.sheet.proofs.Edits.{touched-reads, place-good, delete-good}
 use Rattle.sheet.proofs.Turn.{turn-right-good, mirror-good}
 use Rattle.joints.specs.Tables.{Sound}
@@ -31,7 +31,7 @@ lawful-sound l z = record {
   fits = record { room = l .rule1 .component-room; each = l .rule1 .components-fit };
 }
 
-pub placed-good : (c : Component) (s : Sheet) → PartFits c → Good s → any (touches c) (s .parts) ≡ false → Good (place c s)
+pub placed-good : (c : Component) (s : Sheet) → PartFits c → Good s → any (touches c) (s .parts) ≡ false → Good (placeOne c s)
 placed-good c s f g e = place-good c s f g (λ b m t. subst T e (passes (touched-reads c (s .parts)) (b, m, t)))
 
 pub acted-good : (a : Act) (p : Point) (n : ℕ) (s : Sheet) → Good s → Good (acted a p n s .sheet)

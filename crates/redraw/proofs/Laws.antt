@@ -14,7 +14,7 @@ use Rattle.sheet.specs.declared.Drawing.{Drawing}
 use Rattle.sheet.specs.declared.Tally.{Tally}
 use Rattle.sheet.specs.Parts.{padsOf, touches}
 use Rattle.sheet.specs.Drawings.{Sheet, listsOf, tallyOf}
-use Rattle.sheet.specs.Wiring.{Good, Room}
+use Rattle.sheet.proofs.Wiring.{Good, Roomy}
 use Rattle.sheet.specs.Rules.{Lawful}
 use Rattle.sheet.specs.Edits.{Outcome}
 use Rattle.sheet.proofs.Rules.{lawful-good, drawn-lists, drawn-lawful}
@@ -27,7 +27,7 @@ use Rattle.redraw.specs.declared.Edited.{Edited}
 use Rattle.redraw.specs.declared.pointer.Act.{Act}
 use Rattle.redraw.specs.declared.pointer.Act.the-variants.{Delete, TurnRight, Mirror}
 use Rattle.redraw.specs.Acts.{acted}
-use Rattle.redraw.specs.Calls.{refused, unless, done, edited, addWire, addComponent, pointed, deleteAt, rotateAt, mirrorAt}
+use Rattle.redraw.specs.Calls.{refused, refusedUnless, editDone, edited, addWire, addComponent, pointed, deleteAt, rotateAt, mirrorAt}
 use Rattle.redraw.proofs.Finishing.{edited-room, edited-none}
 use Rattle.redraw.proofs.Asking.{Decides, wire-decides, part-decides, pointer-decides}
 use Rattle.redraw.proofs.Keeping.{placed-good, acted-good}
@@ -38,10 +38,10 @@ use Rattle.redraw.proofs.Keeping.{placed-good, acted-good}
 pub by-reply : (P : Edited → Type 0) {d : Drawing} {t : Tally} {n : ℕ} {x call : Edited} → Decides d t n x call → ((n ≡ 0 → ⊥) → P (refused n d t)) → (n ≡ 0 → P x) → P call
 by-reply P {n = n} D f g = ⊎-elim (λ (e : n ≡ 0). subst P (D .makes e) (g e)) (λ (h : n ≡ 0 → ⊥). subst P (D .refuses h) (f h)) (decide (eqb-reads n 0))
 
-pub by-room : (P : Edited → Type 0) {d : Drawing} {t : Tally} (o : Outcome) → P (refused 7 d t) → (Room (o .sheet) → P (done o)) → P (edited d t o)
-by-room P {d} {t} o f g = ⊎-elim (λ (r : Room (o .sheet)). subst P (sym (edited-room d t o r)) (g r)) (λ (n : Room (o .sheet) → ⊥). subst P (sym (edited-none d t o n)) f) (decide (roomy-reads (o .sheet)))
+pub by-room : (P : Edited → Type 0) {d : Drawing} {t : Tally} (o : Outcome) → P (refused 7 d t) → (Roomy (o .sheet) → P (editDone o)) → P (edited d t o)
+by-room P {d} {t} o f g = ⊎-elim (λ (r : Roomy (o .sheet)). subst P (sym (edited-room d t o r)) (g r)) (λ (n : Roomy (o .sheet) → ⊥). subst P (sym (edited-none d t o n)) f) (decide (roomy-reads (o .sheet)))
 
-by-test : (P : Edited → Type 0) (b : Bool) (n : ℕ) {d : Drawing} {t : Tally} {x : Edited} → P (refused n d t) → (b ≡ true → P x) → P (unless b n d t x)
+by-test : (P : Edited → Type 0) (b : Bool) (n : ℕ) {d : Drawing} {t : Tally} {x : Edited} → P (refused n d t) → (b ≡ true → P x) → P (refusedUnless b n d t x)
 by-test P true n f g = g refl
 by-test P false n f g = f
 
@@ -56,7 +56,7 @@ pub record Fine (e : Edited) : Type 0 where
 abbrev pub Accepted : Edited → Type 0
 Accepted e = e .reply ≡ 0 → Fine e
 
-done-fine : (o : Outcome) → Room (o .sheet) → Good (o .sheet) → Fine (done o)
+done-fine : (o : Outcome) → Roomy (o .sheet) → Good (o .sheet) → Fine (editDone o)
 done-fine o r g =
     let e = drawn-lists (o .sheet) in
     record { lawful = drawn-lawful r g; tally = ap tallyOf (sym e); sum = subst (λ (s : Sheet). tallyOf (o .sheet) .ends ≡ 2 * length (s .wires) + length (padsOf (s .parts))) (sym e) (tally-sum (o .sheet)) }

@@ -16,7 +16,7 @@ use Rattle.sheet.specs.declared.Drawing.{Drawing}
 use Rattle.sheet.specs.declared.Tally.{Tally}
 use Rattle.sheet.specs.Parts.{touches}
 use Rattle.sheet.specs.Drawings.{listsOf, drawn, tallyOf}
-use Rattle.sheet.specs.Edits.{Outcome, wire, place, delete, turnRight, mirror}
+use Rattle.sheet.specs.Edits.{Outcome, wire, placeOne, delete, turnRight, mirror}
 use Rattle.asked.specs.Asked.{ranged, wireAt, componentAt, pointAt}
 use Rattle.edits.specs.Making.{roomy, quiet}
 use Rattle.redraw.specs.declared.Edited.{Edited}
@@ -26,22 +26,22 @@ abbrev pub refused : ℕ → Drawing → Tally → Edited
 refused n d t = record { reply = n; tally = t; drawing = d; hit = 0; lost = 0 }
 
 -- the reply n is given if the test fails
-abbrev pub unless : Bool → ℕ → Drawing → Tally → Edited → Edited
-unless b n d t other = cond b other (refused n d t)
+abbrev pub refusedUnless : Bool → ℕ → Drawing → Tally → Edited → Edited
+refusedUnless b n d t other = cond b other (refused n d t)
 
 -- "after reply 0 it holds the numbers of wires, joints and components and the sum of all joint counts"
-abbrev pub done : Outcome → Edited
-done o = record { reply = 0; tally = tallyOf (o .sheet); drawing = drawn (o .sheet); hit = o .hit; lost = o .lost }
+abbrev pub editDone : Outcome → Edited
+editDone o = record { reply = 0; tally = tallyOf (o .sheet); drawing = drawn (o .sheet); hit = o .hit; lost = o .lost }
 
 -- 7 or 0
 unfoldable pub edited : Drawing → Tally → Outcome → Edited
-edited d t o = unless (roomy (o .sheet)) 7 d t (done o)
+edited d t o = refusedUnless (roomy (o .sheet)) 7 d t (editDone o)
 
 -- "Wire.": 1 "a coordinate outside its range", 2 "wire start greater than its end", then the edit
 unfoldable pub addWire : Drawing → Bool → ℤ → ℤ → ℤ → Tally → Edited
 addWire d vertical line start end t =
-    unless (ranged 6000 line && (ranged 6000 start && ranged 6000 end)) 1 d t
-    (unless (leZ start end) 2 d t
+    refusedUnless (ranged 6000 line && (ranged 6000 start && ranged 6000 end)) 1 d t
+    (refusedUnless (leZ start end) 2 d t
     (edited d t (quiet (wire (wireAt vertical line start end) (listsOf d)))))
 
 -- "Place.": 4 "unknown kind, or not one of the eight orientations", 1, 5 "label too long or with another byte", 6 "the new component's box
@@ -49,17 +49,17 @@ addWire d vertical line start end t =
 unfoldable pub addComponent : Drawing → ℕ → RotMirror → ℤ → ℤ → Label → Tally → Edited
 addComponent d kind o x y label t =
     let c = componentAt kind o x y label in
-    unless (knownSymbol kind o) 4 d t
-    (unless (ranged 5800 x && ranged 5800 y) 1 d t
-    (unless (eqb (heldLabel label .reply) 0) 5 d t
-    (unless (not (any (touches c) (listsOf d .parts))) 6 d t
-    (edited d t (quiet (place c (listsOf d)))))))
+    refusedUnless (knownSymbol kind o) 4 d t
+    (refusedUnless (ranged 5800 x && ranged 5800 y) 1 d t
+    (refusedUnless (eqb (heldLabel label .reply) 0) 5 d t
+    (refusedUnless (not (any (touches c) (listsOf d .parts))) 6 d t
+    (edited d t (quiet (placeOne c (listsOf d)))))))
 
 -- the pointer and a size are in their ranges, else 1 or 3
 unfoldable pub pointed : Drawing → ℤ → ℤ → ℤ → Tally → (Point → ℕ → Outcome) → Edited
 pointed d x y size t edit =
-    unless (ranged 6000 x && ranged 6000 y) 1 d t
-    (unless (eqb (sizedReply (sizeOf size)) 0) 3 d t
+    refusedUnless (ranged 6000 x && ranged 6000 y) 1 d t
+    (refusedUnless (eqb (sizedReply (sizeOf size)) 0) 3 d t
     (edited d t (edit (pointAt x y) (toℕ size))))
 
 -- "Delete."; "Hit and lost are 0 for wire, place and delete."

@@ -17,7 +17,7 @@ use Rattle.sheet.specs.Points.{same, rises}
 use Rattle.sheet.specs.Joints.{place, jointsOf}
 use Rattle.sheet.specs.Parts.{padsOf, ahead}
 use Rattle.sheet.specs.Drawings.{Sheet, joints, zeroJoint, jointTable, jointRows, listsOf, marksOf}
-use Rattle.sheet.specs.Wiring.{AllFit, Room}
+use Rattle.sheet.specs.Wiring.{AllFit, Roomy}
 use Rattle.sheet.proofs.Totals.{joint-room}
 use Rattle.rules.specs.declared.Touching.{Touching}
 use Rattle.limits.specs.Limits.{check1}
@@ -43,7 +43,7 @@ module _ (d : Drawing) (w : Within d) (js : Joints) (e : js ≡ jointTable (join
   rows-are : jointRows js ≡ jointsOf (marksOf (listsOf d))
   rows-are = table-rows (jointsOf (marksOf (listsOf d))) e
 
-  room : Room (listsOf d)
+  room : Roomy (listsOf d)
   room = record { wires = omega (arith, length-take (d .wires .count) (d .wires .rows), w .wires); parts = omega (arith, length-take (d .components .count) (d .components .rows), w .components .room) }
 
   pub joints-fit : js .count ≤ 1408

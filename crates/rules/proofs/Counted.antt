@@ -12,9 +12,9 @@ use Rattle.sheet.specs.declared.Wire.{Wire}
 use Rattle.sheet.specs.declared.Joint.{Joint}
 use Rattle.sheet.specs.Points.{same}
 use Rattle.sheet.specs.Lines.{high, tip, marks, Inside, Follows}
-use Rattle.sheet.specs.Joints.{place, number, countAt, jointsOf, Listed}
+use Rattle.sheet.specs.Joints.{place, number, countAt, jointsOf}
 use Rattle.sheet.specs.Wiring.{AllFit}
-use Rattle.sheet.specs.Rules.{Rule2, Rule3, Rule4}
+use Rattle.sheet.specs.Rules.{Rule2, Rule3, Rule4, Rule6}
 use Rattle.sheet.proofs.Points.{same-reads}
 use Rattle.sheet.proofs.Held.{held-reads}
 use Rattle.sheet.proofs.Rule4.{rule-4, count-two, count-above}
@@ -76,14 +76,14 @@ rule-6-rows js ps = same-test
     (and-reads (all-reads (λ i. any-reads (row-reads i) js) (jointsOf ps)) (all-reads (λ j. any-reads (row-reads j) (jointsOf ps)) js))))
     (reads6 js ps)
   where
-    there : Listed (jointsOf ps) ps
+    there : Rule6 (jointsOf ps) ps
     there = joints-listed ps
 
     -- each row of one is among the other
     Among : List Joint → List Joint → Type 0
     Among xs ys = (i : Joint) → i ∈ xs → (j : Joint) × j ∈ ys × (i ≡ j)
 
-    into : Rows (λ i j. place i ≡ place j → ⊥) js × (Among (jointsOf ps) js × Among js (jointsOf ps)) → Listed js ps
+    into : Rows (λ i j. place i ≡ place j → ⊥) js × (Among (jointsOf ps) js × Among js (jointsOf ps)) → Rule6 js ps
     into t = record {
       once = t .0;
       all = λ p m. let i = there .all p m in let j = t .1 .0 (i .0) (i .1) in (j .0, j .1, sym (ap place (j .2)) ∙ i .2);
@@ -92,13 +92,13 @@ rule-6-rows js ps = same-test
     }
 
     -- two lists of the same points have the same rows
-    one : (xs ys : List Joint) → Listed xs ps → Listed ys ps → Among xs ys
+    one : (xs ys : List Joint) → Rule6 xs ps → Rule6 ys ps → Among xs ys
     one xs ys a b i m =
         let j = b .all (place i) (a .only i m) in
         let c : i .count ≡ j .0 .count = a .right i m ∙ ap (λ p. number p ps) (sym (j .2)) ∙ sym (b .right (j .0) (j .1)) in
         (j .0, j .1, λ k. record { x = ap (λ (p : Point). p .x) (sym (j .2)) k; y = ap (λ (p : Point). p .y) (sym (j .2)) k; count = c k })
 
-    out : Listed js ps → Rows (λ i j. place i ≡ place j → ⊥) js × (Among (jointsOf ps) js × Among js (jointsOf ps))
+    out : Rule6 js ps → Rows (λ i j. place i ≡ place j → ⊥) js × (Among (jointsOf ps) js × Among js (jointsOf ps))
     out l = (l .once, (one (jointsOf ps) js there l, one js (jointsOf ps) l there))
 
 -- the count at a point, as a walk over the rows finds it

@@ -11,8 +11,8 @@ use Rattle.symbol.specs.declared.Point.{Point}
 use Rattle.sheet.specs.declared.Wire.{Wire}
 use Rattle.sheet.specs.declared.Joint.{Joint}
 use Rattle.sheet.specs.Lines.{ends, marks, Inside}
-use Rattle.sheet.specs.Joints.{place, number, Listed}
-use Rattle.sheet.specs.Rules.{endsAt, Rule3, Rule4}
+use Rattle.sheet.specs.Joints.{place, number}
+use Rattle.sheet.specs.Rules.{endsAt, Rule3, Rule4, Rule6}
 use Rattle.sheet.proofs.Points.{same-reads, member-reads}
 use Rattle.sheet.proofs.Lines.{inside-reads, ends-in, in-ends}
 use Rattle.sheet.proofs.JointRows.{number-in}
@@ -54,7 +54,7 @@ reads4 ws ps = reads-as (into, out) (all-reads (λ p. not-reads (or-reads (bare-
     out r p m (inl t) = r p false (t .0) (t .1 .0) (t .1 .1)
     out r p m (inr t) = r p true (t .0) (t .1 .0) (t .1 .1)
 
-pub reads6 : (js : List Joint) (ps : List Point) → Reads (Listed js ps) (check6 js ps)
+pub reads6 : (js : List Joint) (ps : List Point) → Reads (Rule6 js ps) (check6 js ps)
 unfolding check6
 reads6 js ps = reads-as
     (λ t. record { once = t .0; all = t .1 .0; only = λ j m. t .1 .1 j m .0; right = λ j m. t .1 .1 j m .1 }, λ l. (l .once, (l .all, λ j m. (l .only j m, l .right j m))))

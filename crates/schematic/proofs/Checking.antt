@@ -12,7 +12,7 @@ use Rattle.rules.specs.declared.Checked.{Checked}
 use Rattle.rules.specs.Check.{checkOf, lawful}
 use Rattle.rules.proofs.Check.{check-lawful}
 use Rattle.redraw.specs.declared.Edited.{Edited}
-use Rattle.redraw.specs.Calls.{refused, unless}
+use Rattle.redraw.specs.Calls.{refused, refusedUnless}
 use Rattle.redraw.proofs.Laws.{Accepted}
 use Rattle.schematic.specs.Calls.{checked}
 
@@ -37,6 +37,6 @@ pub checked-accepted : (d : Drawing) (t : Tally) (e : Edited) → Sized d → (L
 unfolding checked
 checked-accepted d t e z f = go (lawful d) refl
   where
-    go : (b : Bool) → lawful d ≡ b → Accepted (unless b 9 d t e)
+    go : (b : Bool) → lawful d ≡ b → Accepted (refusedUnless b 9 d t e)
     go true q = f (check-lawful d z .0 (eqb→eq (checkOf d .rule) 0 (subst T (sym q) tt)))
     go false q = λ r. absurd (omega arith)

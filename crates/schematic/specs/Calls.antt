@@ -4,8 +4,8 @@ use Rattle.sheet.specs.declared.Drawing.{Drawing}
 use Rattle.sheet.specs.declared.Tally.{Tally}
 use Rattle.rules.specs.Check.{lawful}
 use Rattle.redraw.specs.declared.Edited.{Edited}
-use Rattle.redraw.specs.Calls.{unless}
+use Rattle.redraw.specs.Calls.{refusedUnless}
 
 -- the answer e, if the drawing is lawful
 unfoldable pub checked : Drawing → Tally → Edited → Edited
-checked d t e = unless (lawful d) 9 d t e
+checked d t e = refusedUnless (lawful d) 9 d t e

@@ -6,7 +6,7 @@ use lib.IntN.{pos, negsuc}
 use Rattle.script.specs.declared.Command.{Command}
 use Rattle.script.specs.declared.Command.the-variants.{Horizontal, Vertical, Place, Delete, Turn, Mirror, Nets, Unreadable}
 use Rattle.script.specs.Grammar.{bytes}
-use Rattle.script.specs.Reading.{digitsOf, wholeOf, signedOf, numberOf, fieldOf, threeOf, lettered, threeLine, labelled, placeLine, lineOf, commandOf}
+use Rattle.script.specs.Reading.{digitsOf, wholeOf, signedNumeral, numeralOf, fieldOf, threeOf, lettered, threeLine, labelled, placeLine, lineOf, commandOf}
 
 examples : List (String × Command)
 examples =
@@ -33,5 +33,5 @@ examples =
     ∷ []
 
 read : map (λ e. commandOf (bytes (e .0))) examples ≡ map (λ e. e .1) examples
-unfolding examples digitsOf wholeOf signedOf numberOf fieldOf threeOf lettered threeLine labelled placeLine lineOf commandOf
+unfolding examples digitsOf wholeOf signedNumeral numeralOf fieldOf threeOf lettered threeLine labelled placeLine lineOf commandOf
 read = refl

@@ -39,10 +39,10 @@ no-letter letter a b c h v d r m = rw (ne-eqb _ _ h, ne-eqb _ _ v, ne-eqb _ _ d,
 -- ---- the line's end
 
 module _ (k : Command) (l : List ℕ) (i : ℕ) where
-  pub ended : length l ≤ i → ending k (drop i l) ≡ k
+  pub ended : length l ≤ i → ending Unreadable k (drop i l) ≡ k
   ended h = rw (drop-of-length-le l h)
 
-  pub not-ended : i < length l → ending k (drop i l) ≡ Unreadable
+  pub not-ended : i < length l → ending Unreadable k (drop i l) ≡ Unreadable
   not-ended h = rw (at-byte l i h)
 
 -- ---- the label

@@ -12,7 +12,7 @@ use lib.IntN.{ℤ}
 use Rattle.lists.proofs.Tests.{choose, decide, clash, leb-reads, eqb-reads}
 use Rattle.script.specs.declared.Command.{Command}
 use Rattle.script.specs.declared.Command.the-variants.{Place, Unreadable}
-use Rattle.script.specs.Grammar.{byte, bytes, IsNumber, _␣_, Letter, horizontal, vertical, delete, turn, mirror, Label, none, some, IsLine, three, place, nets, Says, readable, unreadable}
+use Rattle.script.specs.Grammar.{byte, bytes, IsNumber, _␣_, Letter, horizontal, vertical, delete, turn, mirror, HasLabel, none, some, IsLine, three, place, nets, Says, readable, unreadable}
 use Rattle.script.specs.Reading.{found, then, fieldOf, threeOf, ending, lettered, threeLine, labelled, placeLine, lineOf, commandOf}
 use Rattle.script.proofs.Parts.{Stops, end, space, field-by, three-by, field-is, three-is}
 
@@ -23,7 +23,7 @@ data Right (s : List ℕ) : Command → Type 0 where
   nothing : Right s Unreadable
 
 module _ {s : List ℕ} where
-  ending-by : {k : Command} (rest : List ℕ) → (rest ≡ [] → Right s k) → Right s (ending k rest)
+  ending-by : {k : Command} (rest : List ℕ) → (rest ≡ [] → Right s k) → Right s (ending Unreadable k rest)
   ending-by [] is = is refl
   ending-by (b ∷ rest) is = nothing
 
@@ -42,7 +42,7 @@ module _ {s : List ℕ} where
 
   three-line : (l : ℕ) (t : List ℕ) → s ≡ l ∷ t → Right s (threeLine l t)
   unfolding threeLine
-  three-line l t e = three-by (λ r. Right s (then r (λ u. ending (lettered l (u .0) (u .1) (u .2))) Unreadable)) t
+  three-line l t e = three-by (λ r. Right s (then r (λ u. ending Unreadable (lettered l (u .0) (u .1) (u .2))) Unreadable)) t
       (λ a b c rest w. ending-by rest (λ q. lettered-by l (w .is-a) (w .is-b) (w .is-c) (rw (e, w .all, q, append-nil)))) nothing
 
   module _ {KIND ORIENT X Y : List ℕ} {kind orient x y : ℤ} (a : IsNumber KIND kind) (b : IsNumber ORIENT orient) (c : IsNumber X x) (d : IsNumber Y y) where
@@ -83,11 +83,11 @@ three-line-is {f = f} {A} {B} {C} {a} {b} {c} letter p q w = by letter (ap (λ C
   by turn e = rw e
   by mirror e = rw e
 
-label-stops : {rest name : List ℕ} → Label rest name → Stops rest
+label-stops : {rest name : List ℕ} → HasLabel rest name → Stops rest
 label-stops none = end
 label-stops some = space
 
-label-is : (n : ℕ) (f : ℕ → Command) {rest name : List ℕ} {at : ℕ} → Label rest name → at + length name ≡ n → labelled n f rest ≡ f at
+label-is : (n : ℕ) (f : ℕ → Command) {rest name : List ℕ} {at : ℕ} → HasLabel rest name → at + length name ≡ n → labelled n f rest ≡ f at
 unfolding labelled
 label-is n f none e = ap f (omega arith)
 label-is n f some e = ap f (omega arith)

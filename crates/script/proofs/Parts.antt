@@ -9,7 +9,7 @@ use lib.ListN.{length}
 use lib.IntN.{ℤ, pos}
 use Rattle.lists.proofs.Tests.{Reads, choose, leb-reads, eqb-reads, and-reads}
 use Rattle.script.specs.Grammar.{byte, Digits, none, more, valueOf, IsWhole, IsNumber, plain, minus, _␣_}
-use Rattle.script.specs.Reading.{Found, found, missing, then, behind, isDigit, digitsOf, wholeOf, withSign, signedOf, numberOf, fieldOf, threeOf}
+use Rattle.script.specs.Reading.{Front, found, missing, then, afterByte, isDigit, digitsOf, wholeOf, withSign, signedNumeral, numeralOf, fieldOf, threeOf}
 
 -- what ends a number
 pub data Stops : List ℕ → Type 0 where
@@ -17,14 +17,14 @@ pub data Stops : List ℕ → Type 0 where
   space : {s : List ℕ} → Stops (byte " " ∷ s)
 
 module _ {B : Type 0} (C : B → Type 0) where
-  pub behind-by : (b : ℕ) (s : List ℕ) {f : List ℕ → B} {e : B} → ((t : List ℕ) → s ≡ b ∷ t → C (f t)) → C e → C (behind b s f e)
+  pub behind-by : (b : ℕ) (s : List ℕ) {f : List ℕ → B} {e : B} → ((t : List ℕ) → s ≡ b ∷ t → C (f t)) → C e → C (afterByte b s f e)
   behind-by b [] is not = not
   behind-by b (c ∷ s) is not = choose (eqb-reads c b) C (λ q. is s (ap (λ x. x ∷ s) q)) (λ n. not)
 
 pub digit-reads : (b : ℕ) → Reads ((byte "0" ≤ b) × (b ≤ byte "9")) (isDigit b)
 digit-reads b = and-reads (leb-reads (byte "0") b) (leb-reads b (byte "9"))
 
-module _ (C : Found ℕ → Type 0) where
+module _ (C : Front ℕ → Type 0) where
   digits-by : (n v : ℕ) (s : List ℕ) → ((ds rest : List ℕ) → Digits ds → length ds ≤ n → s ≡ ds ++ rest → C (found (valueOf v ds) rest)) → C (digitsOf n v s)
   unfolding digitsOf valueOf
   digits-by zero v s is = is [] s none (omega arith) refl
@@ -44,9 +44,9 @@ module _ (C : Found ℕ → Type 0) where
       is (b ∷ ds) rest _ (record { digits = more (d .0) (d .1) g; least = omega arith; most = omega arith; value = ap (λ v. valueOf v ds) (omega arith) }) (ap (λ l. b ∷ l) e)))
       (λ n. not)
 
-module _ (C : Found ℤ → Type 0) where
-  number-by : (s : List ℕ) → ((t rest : List ℕ) (z : ℤ) → IsNumber t z → s ≡ t ++ rest → C (found z rest)) → C missing → C (numberOf s)
-  unfolding numberOf signedOf
+module _ (C : Front ℤ → Type 0) where
+  number-by : (s : List ℕ) → ((t rest : List ℕ) (z : ℤ) → IsNumber t z → s ≡ t ++ rest → C (found z rest)) → C missing → C (numeralOf s)
+  unfolding numeralOf signedNumeral
   number-by s is not =
       behind-by C (byte "-") s
       (λ t q. whole-by (λ r. C (then r (λ v. found (withSign true v)) missing)) t (λ ds rest v g e. is (byte "-" ∷ ds) rest _ (minus g) (q ∙ ap (λ l. byte "-" ∷ l) e)) not)
@@ -66,7 +66,7 @@ pub record IsThree (s : List ℕ) (a b c : ℤ) (rest : List ℕ) : Type 0 where
   pub is-c : IsNumber C c
   pub all : s ≡ [] ␣ A ␣ B ␣ C ++ rest
 
-module _ (P : Found (ℤ × ℤ × ℤ) → Type 0) where
+module _ (P : Front (ℤ × ℤ × ℤ) → Type 0) where
   pub three-by : (s : List ℕ) → ((a b c : ℤ) (rest : List ℕ) → IsThree s a b c rest → P (found (a, b, c) rest)) → P missing → P (threeOf s)
   unfolding threeOf
   three-by s is not =
@@ -102,10 +102,10 @@ module _ {rest : List ℕ} (stops : Stops rest) where
       let value : valueOf (d - byte "0") ds ≡ v = ap (λ u. valueOf u ds) (omega arith) ∙ w .value in
       choose (digit-reads d) (λ r. r ≡ found v rest) (λ p. later ∙ ap (λ u. found u rest) value) (λ n. absurd (n (lo, hi)))
 
-  number-is : {t : List ℕ} {z : ℤ} → IsNumber t z → numberOf (t ++ rest) ≡ found z rest
-  unfolding numberOf signedOf
+  number-is : {t : List ℕ} {z : ℤ} → IsNumber t z → numeralOf (t ++ rest) ≡ found z rest
+  unfolding numeralOf signedNumeral
   number-is (plain w) = by (w .digits) w where
-    by : {ds : List ℕ} {v : ℕ} → Digits ds → IsWhole ds v → numberOf (ds ++ rest) ≡ found (pos v) rest
+    by : {ds : List ℕ} {v : ℕ} → Digits ds → IsWhole ds v → numeralOf (ds ++ rest) ≡ found (pos v) rest
     by none w = absurd (omega (arith, w .least))
     by {v = v} (more {d} {ds} lo hi g) w =
         choose (eqb-reads d (byte "-")) (λ r. r ≡ found (pos v) rest) (λ e. absurd (omega arith)) (λ n. rw (whole-is (more lo hi g) w))

@@ -10,15 +10,16 @@ use lib.IntN.{ℤ, pos, negℤ}
 use Rattle.script.specs.declared.Command.{Command}
 use Rattle.script.specs.declared.Command.the-variants.{Horizontal, Vertical, Place, Delete, Turn, Mirror, Nets, Unreadable}
 
--- characters and texts as bytes
+-- a character as a byte
 abbrev pub byte : Char → ℕ
 byte c = code c
 
+-- a text as bytes
 abbrev pub bytes : String → List ℕ
 bytes no-more = []
 bytes (_then_ c s) = byte c ∷ bytes s
 
--- "numbers are an optional minus and 1 to 6 digits"
+-- digits; "numbers are an optional minus and 1 to 6 digits"
 pub data Digits : List ℕ → Type 0 where
   none : Digits []
   more : {d : ℕ} {ds : List ℕ} → byte "0" ≤ d → d ≤ byte "9" → Digits ds → Digits (d ∷ ds)
@@ -28,12 +29,14 @@ unfoldable pub valueOf : ℕ → List ℕ → ℕ
 valueOf v [] = v
 valueOf v (d ∷ ds) = valueOf (v * 10 + (d - byte "0")) ds
 
+-- 1 to 6 digits of the value v
 pub record IsWhole (ds : List ℕ) (v : ℕ) : Type 0 where
   pub digits : Digits ds
   pub least : 1 ≤ length ds
   pub most : length ds ≤ 6
   pub value : valueOf 0 ds ≡ v
 
+-- these, or a minus and these
 pub data IsNumber : List ℕ → ℤ → Type 0 where
   plain : {ds : List ℕ} {v : ℕ} → IsWhole ds v → IsNumber ds (pos v)
   minus : {ds : List ℕ} {v : ℕ} → IsWhole ds v → IsNumber (byte "-" ∷ ds) (negℤ (pos v))
@@ -53,9 +56,9 @@ pub data Letter : Char → (ℤ → ℤ → ℤ → Command) → Type 0 where
 
 -- what stands behind the numbers of a `p` line, and its label: "optionally one space and a label (the rest of the line, at least one
 -- byte ..)"
-pub data Label : List ℕ → List ℕ → Type 0 where
-  none : Label [] []
-  some : {b : ℕ} {bs : List ℕ} → Label (byte " " ∷ b ∷ bs) (b ∷ bs)
+pub data HasLabel : List ℕ → List ℕ → Type 0 where
+  none : HasLabel [] []
+  some : {b : ℕ} {bs : List ℕ} → HasLabel (byte " " ∷ b ∷ bs) (b ∷ bs)
 
 -- the readable lines, but for their length; the label of a `p` line begins at the index `at`
 pub data IsLine (s : List ℕ) : Command → Type 0 where
@@ -63,7 +66,7 @@ pub data IsLine (s : List ℕ) : Command → Type 0 where
       → Letter l f → IsNumber A a → IsNumber B b → IsNumber C c → s ≡ (byte l ∷ []) ␣ A ␣ B ␣ C
       → IsLine s (f a b c)
   place : {KIND ORIENT X Y rest label : List ℕ} {kind orient x y : ℤ} {at : ℕ}
-      → IsNumber KIND kind → IsNumber ORIENT orient → IsNumber X x → IsNumber Y y → Label rest label
+      → IsNumber KIND kind → IsNumber ORIENT orient → IsNumber X x → IsNumber Y y → HasLabel rest label
       → s ≡ bytes "p" ␣ KIND ␣ ORIENT ␣ X ␣ Y ++ rest → at + length label ≡ length s
       → IsLine s (Place kind orient x y at)
   nets : s ≡ bytes "n" → IsLine s Nets

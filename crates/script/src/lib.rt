@@ -6,7 +6,7 @@ ghost use mathlib.Core.Path.{_≡_};
 ghost use lib.ListN.{length, drop};
 ghost use Rattle.script.specs.Reading.{lettered, threeLine, labelled, placeLine, commandOf};
 ghost use Rattle.script.specs.declared.Command.the-variants.{Place};
-use numbers::Number;
+use numbers::Numeral;
 use numbers::Three;
 
 // What a line says. A label is the part of the line from the index `label` to its end; it is empty where
@@ -125,7 +125,7 @@ fn place_line(line: &[u8]) -> Command
     let Three::Are(kind, orient, x, k) = numbers::three_at(line, 1) else {
         return Command::Unreadable;
     };
-    let Number::Read(y, next) = numbers::field_at(line, k) else {
+    let Numeral::Read(y, next) = numbers::field_at(line, k) else {
         return Command::Unreadable;
     };
     label_line(line, next, kind, orient, x, y)

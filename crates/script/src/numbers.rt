@@ -2,17 +2,17 @@
 ghost use mathlib.Core.Path.{_≡_};
 ghost use Prim.Native.Nat.{_<_};
 ghost use lib.ListN.{drop};
-ghost use Rattle.script.specs.Reading.{found, digitsOf, withSign, signedOf, numberOf, fieldOf, threeOf};
-ghost use Rattle.script.specs.Indexes.{begins, digitOf, numberFound, threeFound};
+ghost use Rattle.script.specs.Reading.{found, digitsOf, withSign, signedNumeral, numeralOf, fieldOf, threeOf};
+ghost use Rattle.script.specs.Indexes.{begins, leadingDigit, numberFound, threeFound};
 
 // The value of digits, and the index behind them.
-pub struct Run {
+pub struct DigitsRead {
     pub value: u32,
     pub next: usize,
 }
 
 // A number, and the index behind it.
-pub enum Number {
+pub enum Numeral {
     Read(i32, usize),
     Missing,
 }
@@ -42,7 +42,7 @@ fn wide(b: u8) -> u32
 
 // The value of the digit at an index, or 10 where no digit stands.
 fn digit_at(line: &[u8], at: usize) -> u32
-    ensures { λ r. ⌜ r ≡ digitOf (drop at (now (line .entry))) ⌝ }
+    ensures { λ r. ⌜ r ≡ leadingDigit (drop at (now (line .entry))) ⌝ }
 {
     if line.len() <= at {
         return 10;
@@ -58,7 +58,7 @@ fn digit_at(line: &[u8], at: usize) -> u32
 }
 
 // At most five digits from an index on, behind a first digit.
-fn digits(line: &[u8], from: usize, first: u32) -> Run
+fn digits(line: &[u8], from: usize, first: u32) -> DigitsRead
     requires { ⌜ first < 10 ⌝ }
     ensures { λ r. ⌜ (found (r .value) (drop (r .next) (now (line .entry))) ≡ digitsOf 5 first (drop from (now (line .entry)))) × (r .value < 1000000) ⌝ }
 {
@@ -68,7 +68,7 @@ fn digits(line: &[u8], from: usize, first: u32) -> Run
     while left > 0 {
         let d = digit_at(line, at);
         if d >= 10 {
-            return Run {
+            return DigitsRead {
                 value: value,
                 next: at,
             };
@@ -77,7 +77,7 @@ fn digits(line: &[u8], from: usize, first: u32) -> Run
         at += 1;
         left -= 1;
     }
-    Run {
+    DigitsRead {
         value: value,
         next: at,
     }
@@ -95,20 +95,20 @@ fn signed(minus: bool, value: u32) -> i32
 }
 
 // One to six digits, with a minus before them or not.
-fn signed_at(line: &[u8], at: usize, minus: bool) -> Number
-    ensures { λ r. ⌜ numberFound (now (line .entry)) r ≡ signedOf minus (drop at (now (line .entry))) ⌝ }
+fn signed_at(line: &[u8], at: usize, minus: bool) -> Numeral
+    ensures { λ r. ⌜ numberFound (now (line .entry)) r ≡ signedNumeral minus (drop at (now (line .entry))) ⌝ }
 {
     let first = digit_at(line, at);
     if first >= 10 {
-        return Number::Missing;
+        return Numeral::Missing;
     }
     let d = digits(line, at + 1, first);
-    Number::Read(signed(minus, d.value), d.next)
+    Numeral::Read(signed(minus, d.value), d.next)
 }
 
 // An optional minus and one to six digits.
-fn number_at(line: &[u8], at: usize) -> Number
-    ensures { λ r. ⌜ numberFound (now (line .entry)) r ≡ numberOf (drop at (now (line .entry))) ⌝ }
+fn number_at(line: &[u8], at: usize) -> Numeral
+    ensures { λ r. ⌜ numberFound (now (line .entry)) r ≡ numeralOf (drop at (now (line .entry))) ⌝ }
 {
     if is_at(line, at, b'-') {
         signed_at(line, at + 1, true)
@@ -118,13 +118,13 @@ fn number_at(line: &[u8], at: usize) -> Number
 }
 
 // A space and a number.
-pub fn field_at(line: &[u8], at: usize) -> Number
+pub fn field_at(line: &[u8], at: usize) -> Numeral
     ensures { λ r. ⌜ numberFound (now (line .entry)) r ≡ fieldOf (drop at (now (line .entry))) ⌝ }
 {
     if is_at(line, at, b' ') {
         number_at(line, at + 1)
     } else {
-        Number::Missing
+        Numeral::Missing
     }
 }
 
@@ -132,13 +132,13 @@ pub fn field_at(line: &[u8], at: usize) -> Number
 pub fn three_at(line: &[u8], at: usize) -> Three
     ensures { λ r. ⌜ threeFound (now (line .entry)) r ≡ threeOf (drop at (now (line .entry))) ⌝ }
 {
-    let Number::Read(a, k) = field_at(line, at) else {
+    let Numeral::Read(a, k) = field_at(line, at) else {
         return Three::AreNot;
     };
-    let Number::Read(b, l) = field_at(line, k) else {
+    let Numeral::Read(b, l) = field_at(line, k) else {
         return Three::AreNot;
     };
-    let Number::Read(c, next) = field_at(line, l) else {
+    let Numeral::Read(c, next) = field_at(line, l) else {
         return Three::AreNot;
     };
     Three::Are(a, b, c, next)

@@ -5,14 +5,15 @@ use mathlib.Core.List.{List, List·Memᴰ·head as ∈-head, List·Memᴰ·tail 
 use mathlib.Core.Path.{_≡_, refl, sym, subst, _∙_}
 use mathlib.Core.Logic.{⊎-elim, _⊎_, inl, inr}
 use native.Mathlib.Omega.{arith}
-use Rattle.lists.specs.Lists.{_∈_, insert, Rows, none, more, Chain, empty, single, link}
+use Rattle.lists.specs.Lists.{_∈_, insert, Rows, none, more}
+use Rattle.lists.proofs.Adjacent.{Adjacent, empty, single, link}
 use Rattle.lists.proofs.Tests.{eqb-reads, leb-reads, ltb-reads, clash, beq-reads, Reads, pass, fail}
 use Rattle.lists.proofs.Lists.{in-cons, in-one, rows-two, rows-all, rows-insert, rows-ext}
 use Rattle.symbol.specs.declared.Point.{Point}
 use Rattle.sheet.specs.declared.Wire.{Wire}
-use Rattle.sheet.specs.Lines.{EndAt, first, Inside, On, Follows, Before, turned, next-line, same-line}
+use Rattle.sheet.specs.Lines.{EndAt, first, Inside, Follows, Before, turned, next-line, same-line}
 use Rattle.sheet.specs.Wiring.{AllFit, Fits}
-use Rattle.sheet.proofs.Lines.{same-dir, end-on, inside-end}
+use Rattle.sheet.proofs.Lines.{On, same-dir, end-on, inside-end}
 
 -- two wires of one line: the first ends before the second starts
 pub before-line : {a b : Wire} → Before a b → a .vertical ≡ b .vertical → a .line ≡ b .line → a .end ≤ b .start
@@ -137,7 +138,7 @@ follows-back k l x f = omega (arith, before-line x (sym (f .dir)) (sym (f .line)
 follows-over : {a b c : Wire} → Fits b → Before a b → Before b c → Follows a c → ⊥
 follows-over l x y f = let t = between x y (f .dir) (f .line) in omega (arith, before-line x (t .0) (t .1), before-line y (sym (t .0) ∙ f .dir) (sym (t .1) ∙ f .line), l .long, f .place)
 
-pub follows-next : {R : Wire → Wire → Type 0} {ws : List Wire} → Rows Before ws → AllFit ws → Chain R ws → (a b : Wire) → a ∈ ws → b ∈ ws → Follows a b → R a b
+pub follows-next : {R : Wire → Wire → Type 0} {ws : List Wire} → Rows Before ws → AllFit ws → Adjacent R ws → (a b : Wire) → a ∈ ws → b ∈ ws → Follows a b → R a b
 follows-next {R} none fits empty a b m n = absurd (∈-nil m)
 follows-next {R} (more {x} h none) fits single a b m n = in-one (λ a. Follows a b → R a b) (in-one (λ b. Follows x b → R x b) (λ f. absurd (follows-self (fits x (∈-head refl)) f)) n) m
 follows-next {R} (more {x} h (more {x = y} {xs} k s)) fits (link p c) a b m n = in-cons (λ a. Follows a b → R a b)

@@ -15,10 +15,9 @@ use Rattle.sheet.specs.Merge.{merge}
 use Rattle.sheet.specs.Boxes.{Shares}
 use Rattle.sheet.specs.Parts.{position, box, pads, padsOf, touches, ahead, PartFits}
 use Rattle.sheet.specs.Drawings.{emptySheet, Sheet}
-use Rattle.sheet.specs.Wiring.{Drawable, Good}
-use Rattle.sheet.specs.Edits.{place, wire, remove, delete}
+use Rattle.sheet.specs.Edits.{placeOne, wire, remove, delete}
 use Rattle.sheet.proofs.Points.{rises-reads, rise-trans, rise-back}
-use Rattle.sheet.proofs.Wiring.{wired-pads}
+use Rattle.sheet.proofs.Wiring.{Drawable, Good, wired-pads}
 use Rattle.sheet.proofs.SplitWired.{split-wired}
 use Rattle.sheet.proofs.Merge.{clean-keep, merge-wired, merge-same}
 use Rattle.sheet.proofs.Run.{drawn-wired, drawn-again}
@@ -71,8 +70,8 @@ gather-insert c cs p = (into, out)
         (λ (n : r .0 ∈ cs). ∈-right (pads c) (in-gather pads n (r .2)))
         (insert-in ahead c cs (r .1))
 
-pub place-good : (c : Component) (s : Sheet) → PartFits c → Good s → ((b : Component) → b ∈ s .parts → Clear c b) → Good (place c s)
-unfolding place
+pub place-good : (c : Component) (s : Sheet) → PartFits c → Good s → ((b : Component) → b ∈ s .parts → Clear c b) → Good (placeOne c s)
+unfolding placeOne
 place-good c s fit good free = record {
   wires = wired-pads (λ p. gather-insert c (s .parts) p .0) (λ p. gather-insert c (s .parts) p .1) (split-wired (pads c) (good .wires));
   fits = λ b m. ⊎-elim (λ (e : b ≡ c). subst PartFits (sym e) fit) (good .fits b) (insert-in ahead c (s .parts) m);

@@ -5,16 +5,16 @@ use Rattle.edge.specs.Coordinates.{biased}
 use Rattle.sheet.specs.Points.{same, rises}
 use Rattle.sheet.specs.Lines.{ends, inside, on, meets, first}
 use Rattle.sheet.specs.Split.{splitOne, splitAt, splitAll}
-use Rattle.sheet.specs.Merge.{held, joins, glue, mergeBy, merge}
-use Rattle.sheet.specs.Run.{kept, run, rest, standing, lay, addWire, drawWire}
+use Rattle.sheet.specs.Merge.{heldApart, joins, glue, mergeBy, merge}
+use Rattle.sheet.specs.Run.{kept, run, rest, standing, lay, layWire, drawWire}
 use Rattle.sheet.specs.Joints.{bump, jointsOf, total, countAt}
 use Rattle.sheet.specs.Parts.{box, pads, touches}
 use Rattle.sheet.specs.Drawings.{joints}
-use Rattle.sheet.specs.Edits.{wire, place, remove, meetsWire, meetsPart, delete, placeAll, turn, hits, turnRight}
+use Rattle.sheet.specs.Edits.{wire, placeOne, remove, meetsWire, meetsPart, delete, placeAll, turn, hits, turnRight}
 use Rattle.sheet.specs.Examples.{Board}
 
 pub board : Board
-unfolding any keep insert gather biased same rises ends inside on meets first splitOne splitAt splitAll held joins glue mergeBy merge kept run rest standing lay addWire drawWire bump jointsOf total countAt box pads touches joints wire place remove meetsWire meetsPart delete placeAll turn hits turnRight
+unfolding any keep insert gather biased same rises ends inside on meets first splitOne splitAt splitAll heldApart joins glue mergeBy merge kept run rest standing lay layWire drawWire bump jointsOf total countAt box pads touches joints wire placeOne remove meetsWire meetsPart delete placeAll turn hits turnRight
 board = record {
   first = refl;
   three = refl;

@@ -4,15 +4,16 @@ use mathlib.Core.List.{List, [], _∷_}
 use mathlib.Core.Path.{_≡_, refl, subst, ap, _∙_}
 use mathlib.Core.Logic.{_⊎_, inl, inr}
 use lib.Dec.{T, eqb}
-use Rattle.lists.specs.Lists.{_∈_, Chain, empty, single, link}
+use Rattle.lists.specs.Lists.{_∈_}
+use Rattle.lists.proofs.Adjacent.{Adjacent, empty, single, link}
 use Rattle.lists.proofs.Tests.{test, holds, passes, stable, choose, reads-as, not-reads, and-reads, or-reads, eqb-reads, beq-reads, Reads}
 use Rattle.lists.proofs.Lists.{any-reads}
 use Rattle.symbol.specs.declared.Point.{Point}
 use Rattle.sheet.specs.declared.Wire.{Wire}
 use Rattle.sheet.specs.Points.{same}
 use Rattle.sheet.specs.Lines.{point, tip, EndAt, Ends, Follows, Side, low, high}
-use Rattle.sheet.specs.Merge.{held, joins, join, glue, mergeBy}
-use Rattle.sheet.specs.Wiring.{Held}
+use Rattle.sheet.specs.Merge.{heldApart, joins, join, glue, mergeBy}
+use Rattle.sheet.specs.Wiring.{HeldApart}
 use Rattle.sheet.proofs.Points.{same-reads, member-reads}
 use Rattle.sheet.proofs.Lines.{ends-is, is-ends}
 
@@ -27,15 +28,15 @@ end-reads p w = reads-as (into, λ e. out (e .0) (e .1)) (or-reads (same-reads p
     out low e = inl (ends-is e)
     out high e = inr (ends-is e)
 
-pub held-reads : (ws : List Wire) (ps : List Point) (d : Bool) (p : Point) → Reads (Held ws ps d p) (held ws ps d p)
-unfolding held
+pub held-reads : (ws : List Wire) (ps : List Point) (d : Bool) (p : Point) → Reads (HeldApart ws ps d p) (heldApart ws ps d p)
+unfolding heldApart
 held-reads ws ps d p = reads-as (into, out) (or-reads (any-reads (λ w. and-reads (beq-reads (w .vertical) (not d)) (end-reads p w)) ws) (member-reads p ps))
   where
-    into : ((w : Wire) × w ∈ ws × ((w .vertical ≡ not d) × EndAt p w)) ⊎ (p ∈ ps) → Held ws ps d p
+    into : ((w : Wire) × w ∈ ws × ((w .vertical ≡ not d) × EndAt p w)) ⊎ (p ∈ ps) → HeldApart ws ps d p
     into (inl t) = inl (record { wire = t .0; among = t .1; dir = t .2 .0; here = t .2 .1 })
     into (inr m) = inr m
 
-    out : Held ws ps d p → ((w : Wire) × w ∈ ws × ((w .vertical ≡ not d) × EndAt p w)) ⊎ (p ∈ ps)
+    out : HeldApart ws ps d p → ((w : Wire) × w ∈ ws × ((w .vertical ≡ not d) × EndAt p w)) ⊎ (p ∈ ps)
     out (inl r) = inl (r .wire, r .among, (r .dir, r .here))
     out (inr m) = inr m
 
@@ -72,7 +73,7 @@ module _ (h : Bool → Point → Bool) (a b : Wire) (bs : List Wire) where
 
 -- no row joins the next
 abbrev pub Unjoined : (Bool → Point → Bool) → List Wire → Type 0
-Unjoined h ws = Chain (λ a b. T (joins h a b) → ⊥) ws
+Unjoined h ws = Adjacent (λ a b. T (joins h a b) → ⊥) ws
 
 pub merge-unjoined : (h : Bool → Point → Bool) (ws : List Wire) → Unjoined h (mergeBy h ws)
 unfolding mergeBy

@@ -14,7 +14,8 @@ use Rattle.sheet.specs.declared.Wire.{Wire}
 use Rattle.sheet.specs.declared.Joint.{Joint}
 use Rattle.sheet.specs.Points.{same, Rise}
 use Rattle.sheet.specs.Lines.{ends}
-use Rattle.sheet.specs.Joints.{place, bump, jointsOf, number, total, countAt, Rising, Listed}
+use Rattle.sheet.specs.Joints.{place, bump, jointsOf, number, total, countAt, Rising}
+use Rattle.sheet.specs.Rules.{Rule6}
 use Rattle.sheet.proofs.Points.{same-reads, rise-asym, rise-self}
 use Rattle.sheet.proofs.Numbers.{swap-cond}
 use Rattle.sheet.proofs.Bump.{Counted, plus, bump-rising, bump-counted, total-bump, length-bump, count-bump}
@@ -67,7 +68,7 @@ unfolding jointsOf number countAt
 count-joints q [] = refl
 count-joints q (p ∷ ps) = count-bump q p (joints-rising ps) ∙ ap (plus q p) (count-joints q ps)
 
-pub joints-listed : (ps : List Point) → Listed (jointsOf ps) ps
+pub joints-listed : (ps : List Point) → Rule6 (jointsOf ps) ps
 joints-listed ps = record {
   once = rows-all (joints-rising ps) (λ i j m n r e. rise-self (subst (λ q. Rise q (place j)) e r));
   all = λ p m. in-count p (jointsOf ps) (omega (arith, count-joints p ps, in-number m));
@@ -76,7 +77,7 @@ joints-listed ps = record {
 }
 
 -- rows that list the points and rise are the joint rows
-pub listed-same : {js : List Joint} {ps : List Point} → Rising js → Listed js ps → js ≡ jointsOf ps
+pub listed-same : {js : List Joint} {ps : List Point} → Rising js → Rule6 js ps → js ≡ jointsOf ps
 listed-same {js} {ps} o l = joints-ext o (joints-rising ps) (λ j m. omega (arith, l .right j m, in-number (l .only j m))) (joints-counted ps) (λ p. counts p ∙ sym (count-joints p ps))
   where
     counts : (p : Point) → countAt p js ≡ number p ps
@@ -89,8 +90,8 @@ listed-same {js} {ps} o l = joints-ext o (joints-rising ps) (λ j m. omega (arit
         (decide (ltb-reads 0 (number p ps)))
 
 -- rules 6 and 7 hold of these rows alone
-pub rules-6-7 : (js : List Joint) (ps : List Point) → (Rising js × Listed js ps) ↔ (js ≡ jointsOf ps)
-rules-6-7 js ps = (λ r. listed-same (r .0) (r .1), λ e. subst (λ l. Rising l × Listed l ps) (sym e) (joints-rising ps, joints-listed ps))
+pub rules-6-7 : (js : List Joint) (ps : List Point) → (Rising js × Rule6 js ps) ↔ (js ≡ jointsOf ps)
+rules-6-7 js ps = (λ r. listed-same (r .0) (r .1), λ e. subst (λ l. Rising l × Rule6 l ps) (sym e) (joints-rising ps, joints-listed ps))
 
 -- ---- the order of the points does not matter
 

@@ -7,10 +7,10 @@ use Rattle.lists.specs.Lists.{_∈_, insert, Rows}
 use Rattle.lists.proofs.Lists.{keep-in, in-keep, insert-in}
 use Rattle.symbol.specs.declared.Point.{Point}
 use Rattle.sheet.specs.declared.Wire.{Wire}
-use Rattle.sheet.specs.Lines.{at, tips, marks, EndAt, first, Ends, Inside, On, Meets, Side, Before}
-use Rattle.sheet.specs.Run.{standing, lay, addWire}
+use Rattle.sheet.specs.Lines.{at, tips, marks, EndAt, first, Ends, Inside, Meets, Side, Before}
+use Rattle.sheet.specs.Run.{standing, lay, layWire}
 use Rattle.sheet.specs.Wiring.{AllFit}
-use Rattle.sheet.proofs.Lines.{on-reads, same-dir, tips-in, HasEnd, marks-in, in-marks}
+use Rattle.sheet.proofs.Lines.{On, on-reads, same-dir, tips-in, HasEnd, marks-in, in-marks}
 use Rattle.sheet.proofs.Before.{insert-order}
 use Rattle.sheet.proofs.Pieces.{piece-end, Within, Piece}
 use Rattle.sheet.proofs.Split.{all-from, all-clean, all-order}
@@ -19,7 +19,7 @@ use Rattle.sheet.proofs.Rest.{runOf, restOf, reach, run-fits, rest-in, 
 
 -- the wires after the edit, and where the run is cut
 abbrev pub laidOf : Draws → List Wire
-laidOf E = addWire (E .new) (E .wires) (E .pads)
+laidOf E = layWire (E .new) (E .wires) (E .pads)
 
 abbrev pub cutsOf : Draws → List Point
 cutsOf E = standing (E .new) (restOf E) (E .pads)
@@ -38,7 +38,7 @@ module _ (E : Draws) where
   in-cuts m o = in-keep (λ q. on-reads q (E .new)) m o
 
   pub laid-in : {v : Wire} → v ∈ laidOf E → Laid E v
-  unfolding addWire lay
+  unfolding layWire lay
   laid-in {v} m =
       let t = all-from (cutsOf E) m in
       ⊎-elim
@@ -47,7 +47,7 @@ module _ (E : Draws) where
       (insert-in first (runOf E) (restOf E) (t .1))
 
   pub laid-clean : {q : Point} {v : Wire} → v ∈ laidOf E → q ∈ cutsOf E → Inside q v → ⊥
-  unfolding addWire lay
+  unfolding layWire lay
   laid-clean m j i = all-clean (cutsOf E) (insert first (runOf E) (restOf E)) m j i
 
   pub laid-fits : AllFit (laidOf E)
@@ -57,7 +57,7 @@ module _ (E : Draws) where
       (laid-in m)
 
   pub laid-order : Rows Before (laidOf E)
-  unfolding addWire lay
+  unfolding layWire lay
   laid-order = all-order (cutsOf E) (insert-order (run-fits E) (rest-fits E) (rest-apart E) (rest-order E))
 
   -- ---- ends

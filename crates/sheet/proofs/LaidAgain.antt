@@ -8,10 +8,10 @@ use Rattle.lists.specs.Lists.{_∈_}
 use Rattle.lists.proofs.Lists.{insert-new, insert-old}
 use Rattle.symbol.specs.declared.Point.{Point}
 use Rattle.sheet.specs.declared.Wire.{Wire}
-use Rattle.sheet.specs.Lines.{at, tip, tips, first, Inside, On, Meets, Side, low, high}
+use Rattle.sheet.specs.Lines.{at, tip, tips, first, Inside, Meets, Side, low, high}
 use Rattle.sheet.specs.Split.{splitAll}
-use Rattle.sheet.specs.Run.{kept, run, rest, lay, addWire}
-use Rattle.sheet.proofs.Lines.{same-dir, wire-is, ends-at, end-on, tips-in}
+use Rattle.sheet.specs.Run.{kept, run, rest, lay, layWire}
+use Rattle.sheet.proofs.Lines.{On, same-dir, wire-is, ends-at, end-on, tips-in}
 use Rattle.sheet.proofs.Before.{wires-ext}
 use Rattle.sheet.proofs.Pieces.{Cut, within-on, Within, Piece}
 use Rattle.sheet.proofs.Split.{all-cover, all-none, all-untouched}
@@ -46,7 +46,7 @@ module _ (E : Draws) where
       still s = ⊎-elim (λ (e : at s v ≡ at s w). e) (λ (c : Cut (cutsOf E) w (at s v)). absurd (rest-untouched m (c .1) (c .2))) (p .tip s)
 
   pub rest-laid : (v : Wire) → v ∈ restOf E → v ∈ laidOf E
-  unfolding addWire lay
+  unfolding layWire lay
   rest-laid v m = all-untouched (cutsOf E) (insert-old first (runOf E) m) (λ q j i. rest-untouched m j i)
 
   -- ---- the same wires are kept, and the same is left of them
@@ -77,7 +77,7 @@ module _ (E : Draws) where
 
   -- each point of the run is on one
   met-at : {q : Point} → On q (runOf E) → (v : Wire) × v ∈ laidOf E × On q v × Meets (E .new) v
-  unfolding addWire lay
+  unfolding layWire lay
   met-at o = let c = all-cover (cutsOf E) (insert-new first (runOf E) (restOf E)) o in (c .0, c .1, c .2, run-meets (c .3))
 
   again-run : run (E .new) (laidOf E) ≡ runOf E
@@ -100,6 +100,6 @@ module _ (E : Draws) where
       same-tip : (s : Side) → at s (run (E .new) (laidOf E)) ≡ at s (runOf E)
       same-tip s = upto-same s (back s (A .tip s)) (out s)
 
-  pub result-again : addWire (E .new) (laidOf E) (E .pads) ≡ laidOf E
-  unfolding addWire
+  pub result-again : layWire (E .new) (laidOf E) (E .pads) ≡ laidOf E
+  unfolding layWire
   result-again = ap₂ (λ r s. lay (E .new) r s (E .pads)) again-run again-rest

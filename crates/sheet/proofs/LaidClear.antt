@@ -7,8 +7,8 @@ use Rattle.lists.specs.Lists.{_∈_}
 use Rattle.lists.proofs.Tests.{decide, leb-reads}
 use Rattle.symbol.specs.declared.Point.{Point}
 use Rattle.sheet.specs.declared.Wire.{Wire}
-use Rattle.sheet.specs.Lines.{along, across, marks, Inside, On, Meets, low, high}
-use Rattle.sheet.proofs.Lines.{same-dir, end-on, inside-end, HasEnd, marks-in, in-marks}
+use Rattle.sheet.specs.Lines.{along, across, marks, Inside, Meets, low, high}
+use Rattle.sheet.proofs.Lines.{On, same-dir, end-on, inside-end, HasEnd, marks-in, in-marks}
 use Rattle.sheet.proofs.Pieces.{within-inside, Within, Piece}
 use Rattle.sheet.proofs.Reach.{Reached}
 use Rattle.sheet.proofs.Rest.{runOf, restOf, reach, rest-in, rest-clean, Draws}

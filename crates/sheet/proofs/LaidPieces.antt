@@ -2,13 +2,13 @@
 use mathlib.Core.List.{List, [], _∷_, List·Memᴰ·head as ∈-head, List·Memᴰ·tail as ∈-tail, List·Memᴰ·eq-of-singleton as ∈-one, Memᴰ·cast as ∈-cast}
 use mathlib.Core.Path.{_≡_, refl, subst}
 use mathlib.Core.Logic.{⊎-elim, inl}
-use Rattle.lists.specs.Lists.{_∈_, insert, insertAll, Rows, none, more}
-use Rattle.lists.proofs.Lists.{insert-in, insert-new, insert-all-in, insert-all-new, insert-all-old, rows-one}
+use Rattle.lists.specs.Lists.{_∈_, insert, Rows, none, more}
+use Rattle.lists.proofs.Lists.{insertAll, insert-in, insert-new, insert-all-in, insert-all-new, insert-all-old, rows-one}
 use Rattle.symbol.specs.declared.Point.{Point}
 use Rattle.sheet.specs.declared.Wire.{Wire}
 use Rattle.sheet.specs.Lines.{first, Before}
 use Rattle.sheet.specs.Split.{splitAll}
-use Rattle.sheet.specs.Run.{lay, addWire, addPieces}
+use Rattle.sheet.specs.Run.{run, rest, standing, lay, layWire}
 use Rattle.sheet.specs.Wiring.{AllFit}
 use Rattle.sheet.proofs.Before.{Apart, wires-ext, insert-order}
 use Rattle.sheet.proofs.Pieces.{whole, apart-within, Piece}
@@ -16,6 +16,10 @@ use Rattle.sheet.proofs.Split.{split-from, split-to, all-from, all-orde
 use Rattle.sheet.proofs.Rest.{runOf, restOf, run-fits, rest-fits, rest-order, rest-apart, Draws}
 use Rattle.sheet.proofs.Laid.{laidOf, cutsOf, laid-order}
 use Rattle.sheet.proofs.LaidAgain.{rest-piece, rest-laid}
+
+-- "Cut the run .." and nothing else: the wire edit with the run cut alone, and its pieces put in
+unfoldable pub addPieces : Wire → List Wire → List Point → List Wire
+addPieces n ws ps = insertAll first (splitAll (standing n (rest n ws) ps) (run n ws ∷ [])) (rest n ws)
 
 -- ---- a list is split wire by wire
 
@@ -61,7 +65,7 @@ module _ (E : Draws) where
       (insert-all-order s (λ u m. f u (∈-tail m)) (λ u w m. a u w (∈-tail m)))
 
   pub result-pieces : addPieces (E .new) (E .wires) (E .pads) ≡ laidOf E
-  unfolding addPieces addWire lay
+  unfolding addPieces layWire lay
   result-pieces = wires-ext (insert-all-order (all-order (cutsOf E) rows-one) pieces-fit pieces-apart) (laid-order E) (all-fit pieces-fit) to from
     where
       to : (v : Wire) → v ∈ insertAll first Pieces (restOf E) → v ∈ splitAll (cutsOf E) (insert first (runOf E) (restOf E))

@@ -9,10 +9,10 @@ use Rattle.lists.proofs.Tests.{decide, not-not, same-or-turned}
 use Rattle.lists.proofs.Lists.{insert-new, insert-old}
 use Rattle.symbol.specs.declared.Point.{Point}
 use Rattle.sheet.specs.declared.Wire.{Wire}
-use Rattle.sheet.specs.Lines.{tip, tips, EndAt, first, Ends, Inside, On, Meets, Follows, Side, low, high}
-use Rattle.sheet.specs.Run.{lay, addWire}
-use Rattle.sheet.specs.Wiring.{Held, Ended, Wired}
-use Rattle.sheet.proofs.Lines.{on-reads, meets-reads, same-dir, ends-at, end-on, on-cases, tips-in, HasEnd, marks-in, in-marks}
+use Rattle.sheet.specs.Lines.{tip, tips, EndAt, first, Ends, Inside, Meets, Follows, Side, low, high}
+use Rattle.sheet.specs.Run.{lay, layWire}
+use Rattle.sheet.specs.Wiring.{HeldApart, Ended, Wired}
+use Rattle.sheet.proofs.Lines.{On, on-reads, meets-reads, same-dir, ends-at, end-on, on-cases, tips-in, HasEnd, marks-in, in-marks}
 use Rattle.sheet.proofs.Before.{no-share}
 use Rattle.sheet.proofs.Wiring.{follows-end, ended-as, held-at}
 use Rattle.sheet.proofs.Pieces.{within-on, piece-end, Piece}
@@ -25,16 +25,16 @@ use Rattle.sheet.proofs.LaidClear.{inside-run, laid-clear}
 module _ (E : Draws) where
   -- what holds wires of direction d apart at q in the result
   abbrev Holds : Bool → Point → Type 0
-  Holds d q = Held (laidOf E) (E .pads) d q
+  Holds d q = HeldApart (laidOf E) (E .pads) d q
 
   -- ---- ends that are there afterwards
 
   rest-stays : {q : Point} {w : Wire} → w ∈ restOf E → EndAt q w → Ended (laidOf E) (w .vertical) q
-  unfolding addWire lay
+  unfolding layWire lay
   rest-stays {w = w} m e = end-stays (cutsOf E) (rest-fits E w m) (insert-old first (runOf E) m) e
 
   run-stays : {q : Point} → EndAt q (runOf E) → Ended (laidOf E) (runOf E .vertical) q
-  unfolding addWire lay
+  unfolding layWire lay
   run-stays e = end-stays (cutsOf E) (run-fits E) (insert-new first (runOf E) (restOf E)) e
 
   -- ---- away from the wire as drawn
@@ -76,9 +76,9 @@ module _ (E : Draws) where
     held-off : {a b : Wire} → a ∈ laidOf E → b ∈ laidOf E → a .vertical ≡ b .vertical → Ends high q a → Ends low q b → Holds (a .vertical) q
     held-off {a} ma mb d x y =
         let s = old-end ma x in let t = old-end mb y in
-        still (subst (λ c. Held (E .wires) (E .pads) c q) (s .2) (held-at (E .law) (s .1) (t .1) (s .2 ∙ d ∙ sym (t .2)) (s .3) (t .3)))
+        still (subst (λ c. HeldApart (E .wires) (E .pads) c q) (s .2) (held-at (E .law) (s .1) (t .1) (s .2 ∙ d ∙ sym (t .2)) (s .3) (t .3)))
       where
-        still : Held (E .wires) (E .pads) (a .vertical) q → Holds (a .vertical) q
+        still : HeldApart (E .wires) (E .pads) (a .vertical) q → Holds (a .vertical) q
         still (inr p) = inr p
         still (inl t) = inl (ended-as (end-stays-off (t .among) (t .here)) (t .dir))
 
@@ -108,7 +108,7 @@ module _ (E : Draws) where
 
     -- across it: the run ends or is cut there
     ended-on : Spot E q → Ended (laidOf E) (runOf E .vertical) q
-    unfolding addWire lay
+    unfolding layWire lay
     ended-on (inr e) = run-stays e
     ended-on (inl j) = cut-end (cutsOf E) (insert-new first (runOf E) (restOf E)) (within-on (reach E .drawn) on) (in-cuts E j on)
 

@@ -1,5 +1,5 @@
 -- Wire geometry: what the tests read, points and wires by their coordinates, ends and marks.
-use Prim.Native.Nat.{ℕ}
+use Prim.Native.Nat.{ℕ, _≤_}
 use mathlib.Core.Bool.{Bool, true, false}
 use mathlib.Core.List.{List, [], _∷_, List·Memᴰ·head as ∈-head, List·Memᴰ·tail as ∈-tail, List·Memᴰ·cases-cons as ∈-cases, List·Memᴰ·eq-of-singleton as ∈-one, List·Memᴰ·append-cases as ∈-append, Memᴰ·append-left as ∈-left, Memᴰ·append-right as ∈-right}
 use mathlib.Core.Path.{_≡_, refl, sym, subst, ap, _∙_}
@@ -10,8 +10,19 @@ use Rattle.lists.proofs.Tests.{decide, reads-as, and-reads, eqb-reads, leb-read
 use Rattle.lists.proofs.Lists.{gather-in, in-gather}
 use Rattle.symbol.specs.declared.Point.{Point}
 use Rattle.sheet.specs.declared.Wire.{Wire}
-use Rattle.sheet.specs.Lines.{along, across, point, at, tip, tips, ends, marks, EndAt, inside, on, meets, Ends, Inside, On, Meets, Side, low, high}
+use Rattle.sheet.specs.Lines.{along, across, point, at, tip, tips, ends, marks, EndAt, inside, on, meets, Ends, Inside, Meets, Side, low, high}
 use Rattle.sheet.specs.Wiring.{Fits}
+
+-- the other end
+abbrev pub other : Side → Side
+other low = high
+other high = low
+
+-- the point lies on the wire, both ends included
+pub record On (p : Point) (w : Wire) : Type 0 where
+  pub line : w .line ≡ across (w .vertical) p
+  pub from : w .start ≤ along (w .vertical) p
+  pub to : along (w .vertical) p ≤ w .end
 
 -- ---- what the tests read
 

@@ -11,14 +11,19 @@ use Rattle.lists.proofs.Lists.{keep-old, rows-keep, rows-all, rows-chain}
 use Rattle.symbol.specs.declared.Point.{Point}
 use Rattle.sheet.specs.declared.Wire.{Wire}
 use Rattle.sheet.specs.Lines.{tip, marks, EndAt, Inside, Follows, high, Before}
-use Rattle.sheet.specs.Merge.{held, joins, join, glue, mergeBy, merge, mergeFrom}
-use Rattle.sheet.specs.Wiring.{Held, AllFit, Ended, Clean, Wired}
+use Rattle.sheet.specs.Merge.{heldApart, joins, join, glue, mergeBy, merge}
+use Rattle.sheet.specs.Wiring.{HeldApart, AllFit, Ended, Clean, Wired}
 use Rattle.sheet.proofs.Lines.{same-dir, ends-at, HasEnd, marks-in, in-marks}
 use Rattle.sheet.proofs.Before.{ends-apart, follows-next}
 use Rattle.sheet.proofs.Wiring.{ended-as}
 use Rattle.sheet.proofs.Held.{held-reads, joins-reads, not-joined, joins-follow, joins-join, glue-joined, glue-apart, Unjoined, merge-unjoined, merge-idle}
 use Rattle.sheet.proofs.Merged.{merged, merged-kin, merged-fits, merged-order, Merged}
 use Rattle.sheet.proofs.Seams.{merged-inner, merged-stay, Covered, Seam}
+
+-- `mergeBy` from the front, with a the wire still open
+unfoldable pub mergeFrom : (Bool → Point → Bool) → Wire → List Wire → List Wire
+mergeFrom h a [] = a ∷ []
+mergeFrom h a (b ∷ bs) = cond (joins h a b) (mergeFrom h (join a b) bs) (a ∷ mergeFrom h b bs)
 
 -- taking wires and pads away leaves the rest clean
 pub clean-keep : (f : Wire → Bool) {ws : List Wire} {ps qs : List Point} → ((p : Point) → p ∈ qs → p ∈ ps) → Clean ws ps → Clean (keep f ws) qs
@@ -29,7 +34,7 @@ clean-keep f {ws} {ps} {qs} fewer c = record {
 }
 
 module _ {ws : List Wire} {ps : List Point} (c : Clean ws ps) where
-  merging : Merged (Held ws ps) ws (merge ws ps)
+  merging : Merged (HeldApart ws ps) ws (merge ws ps)
   unfolding merge
   merging = merged (held-reads ws ps) ws
 
@@ -50,7 +55,7 @@ module _ {ws : List Wire} {ps : List Point} (c : Clean ws ps) where
       ended : (x : HasEnd p (merge ws ps)) → Ended ws (x .0 .vertical) p
       ended x = old-end (x .0) (x .1) p (x .2)
 
-      go : HasEnd p (merge ws ps) ⊎ (p ∈ ps) → Covered ws (w .vertical) p ⊎ Seam (Held ws ps) ws (w .vertical) p → ⊥
+      go : HasEnd p (merge ws ps) ⊎ (p ∈ ps) → Covered ws (w .vertical) p ⊎ Seam (HeldApart ws ps) ws (w .vertical) p → ⊥
       go (inl x) (inl t) = let k = ended x in c .clear p (in-marks (inl (k .wire, k .among, k .here))) (t .wire) (t .among) (t .here)
       go (inl x) (inr f) = ⊎-elim
           (λ (d : x .0 .vertical ≡ w .vertical). ends-apart order fits (x .1) m d (x .2) i)
@@ -60,25 +65,25 @@ module _ {ws : List Wire} {ps : List Point} (c : Clean ws ps) where
       go (inr x) (inr f) = f .free (inr x)
 
   -- what held two wires apart still does: at their point an end of the other direction is no seam
-  still-held : {d : Bool} {p : Point} → Ended ws d p → Held ws ps d p → Held (merge ws ps) ps d p
+  still-held : {d : Bool} {p : Point} → Ended ws d p → HeldApart ws ps d p → HeldApart (merge ws ps) ps d p
   still-held k (inr m) = inr m
   still-held {d} {p} k (inl t) = ⊎-elim
       (λ (s : Ended (merge ws ps) (t .wire .vertical) p). inl (ended-as s (t .dir)))
-      (λ (s : Seam (Held ws ps) ws (t .wire .vertical) p). absurd (s .free (inl (ended-as k (sym (not-not d) ∙ ap not (sym (t .dir)))))))
+      (λ (s : Seam (HeldApart ws ps) ws (t .wire .vertical) p). absurd (s .free (inl (ended-as k (sym (not-not d) ∙ ap not (sym (t .dir)))))))
       (merged-stay merging (t .wire) (t .among) p (t .here))
 
-  anchored : (a b : Wire) → a ∈ merge ws ps → b ∈ merge ws ps → Follows a b → Held (merge ws ps) ps (a .vertical) (tip high a)
+  anchored : (a b : Wire) → a ∈ merge ws ps → b ∈ merge ws ps → Follows a b → HeldApart (merge ws ps) ps (a .vertical) (tip high a)
   anchored a b m n e = still-held (old-end a m (tip high a) (high, ends-at high a)) (not-joined (held-reads ws ps) (follows-next order fits unjoined a b m n e) e)
     where
-      unjoined : Unjoined (held ws ps) (merge ws ps)
-      unjoined = unfold merge in merge-unjoined (held ws ps) ws
+      unjoined : Unjoined (heldApart ws ps) (merge ws ps)
+      unjoined = unfold merge in merge-unjoined (heldApart ws ps) ws
 
   pub merge-wired : Wired (merge ws ps) ps
   merge-wired = record { clean = record { fits = fits; order = order; clear = clear }; anchored = anchored }
 
 pub merge-same : {ws : List Wire} {ps : List Point} → Wired ws ps → merge ws ps ≡ ws
 unfolding merge
-merge-same {ws} {ps} l = merge-idle (held ws ps) (rows-chain (rows-all (l .clean .order) (λ a b m n o t. let k = holds (joins-reads (held-reads ws ps) a b) t in k .1 (l .anchored a b m n (k .0)))))
+merge-same {ws} {ps} l = merge-idle (heldApart ws ps) (rows-chain (rows-all (l .clean .order) (λ a b m n o t. let k = holds (joins-reads (held-reads ws ps) a b) t in k .1 (l .anchored a b m n (k .0)))))
 
 -- merging once is enough
 pub merge-again : {ws : List Wire} {ps : List Point} → Clean ws ps → merge (merge ws ps) ps ≡ merge ws ps

@@ -12,7 +12,7 @@ use Rattle.lists.proofs.Lists.{keep-old}
 use Rattle.symbol.specs.declared.Point.{Point}
 use Rattle.sheet.specs.declared.Wire.{Wire}
 use Rattle.sheet.specs.Lines.{tip, marks, Follows, low, high}
-use Rattle.sheet.specs.Merge.{held, joins, join, glue, mergeBy, merge}
+use Rattle.sheet.specs.Merge.{heldApart, joins, join, glue, mergeBy, merge}
 use Rattle.sheet.specs.Joints.{jointsOf, number, countAt}
 use Rattle.sheet.specs.Wiring.{Clean, Wired}
 use Rattle.sheet.proofs.Held.{held-reads, joins-reads}
@@ -42,7 +42,7 @@ module _ (h k : Bool → Point → Bool) where
 -- wires that go on in line become one just where the count is 2
 pub merge-by-count : {ws : List Wire} {ps : List Point} → Clean ws ps → mergeBy (λ d p. not (eqb (countAt p (jointsOf (marks ws ps))) 2)) ws ≡ merge ws ps
 unfolding merge
-merge-by-count {ws} {ps} c = merge-cong (λ d p. not (eqb (countAt p (jointsOf (marks ws ps))) 2)) (held ws ps) ws (λ a b m n e.
+merge-by-count {ws} {ps} c = merge-cong (λ d p. not (eqb (countAt p (jointsOf (marks ws ps))) 2)) (heldApart ws ps) ws (λ a b m n e.
     let r = rules-2-7 (c .fits) .0 (c .order) .0 in
     let s = count-joints (tip high a) (marks ws ps) in
     let h = held-reads ws ps (a .vertical) (tip high a) in

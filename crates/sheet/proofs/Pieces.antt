@@ -10,10 +10,10 @@ use Rattle.lists.proofs.Lists.{in-cons, in-one, rows-one}
 use Rattle.symbol.specs.declared.Point.{Point}
 use Rattle.sheet.specs.declared.Wire.{Wire}
 use Rattle.sheet.specs.Points.{same}
-use Rattle.sheet.specs.Lines.{along, across, at, Ends, Inside, On, Side, low, high, Before, same-line}
+use Rattle.sheet.specs.Lines.{along, across, at, Ends, Inside, Side, low, high, Before, same-line}
 use Rattle.sheet.specs.Split.{left, right, splitOne}
 use Rattle.sheet.specs.Wiring.{Fits}
-use Rattle.sheet.proofs.Lines.{inside-reads, same-dir, point-is}
+use Rattle.sheet.proofs.Lines.{On, inside-reads, same-dir, point-is}
 use Rattle.sheet.proofs.Before.{before-like, Apart}
 
 -- v lies within w: same direction and line, and no longer

@@ -5,7 +5,8 @@ use mathlib.Core.Path.{_≡_, refl, sym, ap}
 use mathlib.Core.Logic.{⊎-elim, _⊎_, inl, inr, _↔_}
 use native.Mathlib.Omega.{arith}
 use Rattle.symbol.specs.declared.Point.{Point}
-use Rattle.lists.specs.Lists.{_∈_, Rows, Chain, any}
+use Rattle.lists.specs.Lists.{_∈_, Rows, any}
+use Rattle.lists.proofs.Adjacent.{Adjacent}
 use Rattle.sheet.specs.Points.{same, Rise, lower, level, rises}
 use Rattle.lists.proofs.Tests.{Reads, reads-as, and-reads, or-reads, eqb-reads, ltb-reads, compare}
 use Rattle.lists.proofs.Lists.{any-reads, rows-chain, chain-rows}
@@ -60,5 +61,5 @@ pub rise-back : (p q : Point) → (Rise p q → ⊥) → (p ≡ q → ⊥) → R
 rise-back p q f n = ⊎-elim (λ (r : Rise p q). absurd (f r)) (⊎-elim (λ (e : p ≡ q). absurd (n e)) (λ (r : Rise q p). r)) (rise-or p q)
 
 -- rows that rise each to the next rise each to every later one
-pub rise-chain : {A : Type 0} (f : A → Point) {xs : List A} → Rows (λ b c. Rise (f b) (f c)) xs ↔ Chain (λ b c. Rise (f b) (f c)) xs
+pub rise-chain : {A : Type 0} (f : A → Point) {xs : List A} → Rows (λ b c. Rise (f b) (f c)) xs ↔ Adjacent (λ b c. Rise (f b) (f c)) xs
 rise-chain f = (rows-chain, chain-rows (λ a b c. rise-trans))

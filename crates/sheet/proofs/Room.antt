@@ -16,10 +16,10 @@ use Rattle.sheet.specs.declared.Component.{Component}
 use Rattle.sheet.specs.Lines.{tips, meets, first}
 use Rattle.sheet.specs.Split.{splitAll}
 use Rattle.sheet.specs.Merge.{merge}
-use Rattle.sheet.specs.Run.{kept, run, rest, standing, lay, addWire}
+use Rattle.sheet.specs.Run.{kept, run, rest, standing, lay, layWire}
 use Rattle.sheet.specs.Parts.{pads, padsOf, touches}
 use Rattle.sheet.specs.Drawings.{Sheet}
-use Rattle.sheet.specs.Edits.{place, remove, gone, placeAll, Placed}
+use Rattle.sheet.specs.Edits.{placeOne, remove, gone, placeAll, Placed}
 use Rattle.sheet.proofs.Split.{split-all-no-shorter, split-all-append}
 use Rattle.sheet.proofs.Held.{held-reads}
 use Rattle.sheet.proofs.Merged.{merged, merged-no-longer}
@@ -41,8 +41,8 @@ pub rest-no-shorter : (n : Wire) (ws : List Wire) → length (kept n ws) ≤ len
 unfolding rest
 rest-no-shorter n ws = split-all-no-shorter (tips n) (kept n ws)
 
-pub laid-longer : (n : Wire) (ws : List Wire) (ps : List Point) → length (rest n ws) < length (addWire n ws ps)
-unfolding addWire lay
+pub laid-longer : (n : Wire) (ws : List Wire) (ps : List Point) → length (rest n ws) < length (layWire n ws ps)
+unfolding layWire lay
 laid-longer n ws ps = omega (arith, split-all-no-shorter (standing n (rest n ws) ps) (insert first (run n ws) (rest n ws)), length-insert first (run n ws) (rest n ws))
 
 -- ---- delete
@@ -57,28 +57,28 @@ remove-no-longer f g s = omega (arith, merge-no-longer (keep (λ w. not (f w)) (
 
 -- ---- place, and turn
 
-pub place-no-shorter : (c : Component) (s : Sheet) → length (s .wires) ≤ length (place c s .wires)
-unfolding place
+pub place-no-shorter : (c : Component) (s : Sheet) → length (s .wires) ≤ length (placeOne c s .wires)
+unfolding placeOne
 place-no-shorter c s = split-all-no-shorter (pads c) (s .wires)
 
 pub place-all-no-shorter : (cs : List Component) (s : Sheet) → length (s .wires) ≤ length (placeAll cs s .sheet .wires)
 unfolding placeAll
 place-all-no-shorter [] s = omega arith
 place-all-no-shorter (c ∷ cs) s = choose (touched-reads c (s .parts)) (λ (o : Placed). length (s .wires) ≤ length (o .sheet .wires))
-    {x = gone (placeAll cs s)} {y = placeAll cs (place c s)}
+    {x = gone (placeAll cs s)} {y = placeAll cs (placeOne c s)}
     (λ t. place-all-no-shorter cs s)
-    (λ n. omega (arith, place-no-shorter c s, place-all-no-shorter cs (place c s)))
+    (λ n. omega (arith, place-no-shorter c s, place-all-no-shorter cs (placeOne c s)))
 
 pub place-all-append : (bs cs : List Component) (s : Sheet) → placeAll (bs ++ cs) s .sheet ≡ placeAll cs (placeAll bs s .sheet) .sheet
 unfolding placeAll
 place-all-append [] cs s = refl
-place-all-append (b ∷ bs) cs s = step (any (touches b) (s .parts)) (place-all-append bs cs s) (place-all-append bs cs (place b s))
+place-all-append (b ∷ bs) cs s = step (any (touches b) (s .parts)) (place-all-append bs cs s) (place-all-append bs cs (placeOne b s))
   where
     step : (t : Bool)
         → placeAll (bs ++ cs) s .sheet ≡ placeAll cs (placeAll bs s .sheet) .sheet
-        → placeAll (bs ++ cs) (place b s) .sheet ≡ placeAll cs (placeAll bs (place b s) .sheet) .sheet
-        → cond t (gone (placeAll (bs ++ cs) s)) (placeAll (bs ++ cs) (place b s)) .sheet
-        ≡ placeAll cs (cond t (gone (placeAll bs s)) (placeAll bs (place b s)) .sheet) .sheet
+        → placeAll (bs ++ cs) (placeOne b s) .sheet ≡ placeAll cs (placeAll bs (placeOne b s) .sheet) .sheet
+        → cond t (gone (placeAll (bs ++ cs) s)) (placeAll (bs ++ cs) (placeOne b s)) .sheet
+        ≡ placeAll cs (cond t (gone (placeAll bs s)) (placeAll bs (placeOne b s)) .sheet) .sheet
     step true e f = e
     step false e f = f
 

@@ -4,7 +4,8 @@ use mathlib.Core.List.{List}
 use mathlib.Core.Path.{sym, _∙_}
 use mathlib.Core.Logic.{⊎-elim, _↔_}
 use native.Mathlib.Omega.{arith}
-use Rattle.lists.specs.Lists.{Rows, Chain}
+use Rattle.lists.specs.Lists.{Rows}
+use Rattle.lists.proofs.Adjacent.{Adjacent}
 use Rattle.lists.proofs.Tests.{decide, ltb-reads, clash}
 use Rattle.lists.proofs.Lists.{rows-all, rows-both, rows-chain, chain-rows}
 use Rattle.sheet.specs.declared.Wire.{Wire}
@@ -37,5 +38,5 @@ upward-trans a b c (along e f i) (upright g h) = upright (e ∙ g) h
 upward-trans a b c (along e f i) (up g h) = up (e ∙ g) (omega arith)
 upward-trans a b c (along e f i) (along g h k) = along (e ∙ g) (omega arith) (omega arith)
 
-pub rule-7-next : {ws : List Wire} → Rows Upward ws ↔ Chain Upward ws
+pub rule-7-next : {ws : List Wire} → Rows Upward ws ↔ Adjacent Upward ws
 rule-7-next = (rows-chain, chain-rows upward-trans)

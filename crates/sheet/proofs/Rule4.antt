@@ -13,7 +13,7 @@ use Rattle.sheet.specs.declared.Wire.{Wire}
 use Rattle.sheet.specs.Points.{same}
 use Rattle.sheet.specs.Lines.{tip, tips, ends, marks, Ends, Follows, Side, low, high}
 use Rattle.sheet.specs.Joints.{number}
-use Rattle.sheet.specs.Wiring.{Held, AllFit, Ended}
+use Rattle.sheet.specs.Wiring.{HeldApart, AllFit, Ended}
 use Rattle.sheet.specs.Rules.{endsAt, Rule2, Rule4, Share}
 use Rattle.sheet.proofs.Points.{same-reads}
 use Rattle.sheet.proofs.Lines.{same-dir, ends-at, ends-is, is-ends, ends-in, in-ends}
@@ -103,23 +103,23 @@ module _ {ws : List Wire} (ps : List Point) (fits : AllFit ws) (r : Rule2 ws) wh
   follow-two a b m n e =
       omega (arith, both-sides (a .vertical) (tip high a), one-side low (a .vertical) (tip high a), one-side high (a .vertical) (tip high a), in-side (in-of (a .vertical) n (sym (e .dir))) (follows-end e), in-side (in-of (a .vertical) m refl) (ends-at high a))
 
-  pub rule-4 : Rule4 ws ps ↔ ((a b : Wire) → a ∈ ws → b ∈ ws → Follows a b → Held ws ps (a .vertical) (tip high a))
+  pub rule-4 : Rule4 ws ps ↔ ((a b : Wire) → a ∈ ws → b ∈ ws → Follows a b → HeldApart ws ps (a .vertical) (tip high a))
   rule-4 = (into, out)
     where
-      into : Rule4 ws ps → (a b : Wire) → a ∈ ws → b ∈ ws → Follows a b → Held ws ps (a .vertical) (tip high a)
+      into : Rule4 ws ps → (a b : Wire) → a ∈ ws → b ∈ ws → Follows a b → HeldApart ws ps (a .vertical) (tip high a)
       into f a b m n e = ⊎-elim
-          (λ (t : Held ws ps (a .vertical) (tip high a)). t)
-          (λ (t : Held ws ps (a .vertical) (tip high a) → ⊥). absurd (f (tip high a) (a .vertical) (follow-two a b m n e) (none-other (not (a .vertical)) (tip high a) (λ x. t (inl x))) (λ k. t (inr k))))
+          (λ (t : HeldApart ws ps (a .vertical) (tip high a)). t)
+          (λ (t : HeldApart ws ps (a .vertical) (tip high a) → ⊥). absurd (f (tip high a) (a .vertical) (follow-two a b m n e) (none-other (not (a .vertical)) (tip high a) (λ x. t (inl x))) (λ k. t (inr k))))
           (decide (held-reads ws ps (a .vertical) (tip high a)))
 
-      out : ((a b : Wire) → a ∈ ws → b ∈ ws → Follows a b → Held ws ps (a .vertical) (tip high a)) → Rule4 ws ps
+      out : ((a b : Wire) → a ∈ ws → b ∈ ws → Follows a b → HeldApart ws ps (a .vertical) (tip high a)) → Rule4 ws ps
       out f p d two no-other free =
           let h = side-in high p (of d) (omega (arith, both-sides d p, one-side low d p)) in
           let l = side-in low p (of d) (omega (arith, both-sides d p, one-side high d p)) in
           let i = of-in d (h .1) in let j = of-in d (l .1) in
-          clear (subst (λ q. Held ws ps d q) (sym (ends-is (h .2))) (subst (λ c. Held ws ps c (tip high (h .0))) (i .1) (f (h .0) (l .0) (i .0) (j .0) (ends-follow (i .1 ∙ sym (j .1)) (h .2) (l .2)))))
+          clear (subst (λ q. HeldApart ws ps d q) (sym (ends-is (h .2))) (subst (λ c. HeldApart ws ps c (tip high (h .0))) (i .1) (f (h .0) (l .0) (i .0) (j .0) (ends-follow (i .1 ∙ sym (j .1)) (h .2) (l .2)))))
         where
-          clear : Held ws ps d p → ⊥
+          clear : HeldApart ws ps d p → ⊥
           clear (inl s) = omega (arith, some-end (not d) p s)
           clear (inr m) = free m
 
@@ -129,9 +129,9 @@ module _ {ws : List Wire} (ps : List Point) (fits : AllFit ws) (r : Rule2 ws) wh
     counted : number (tip high a) (marks ws ps) ≡ 2 + endsAt (not (a .vertical)) ws (tip high a) + number (tip high a) ps
     counted = omega (arith, number-append (tip high a) (ends ws) ps, number-both (a .vertical) (tip high a) ws, follow-two a b m n e)
 
-    pub count-two : (Held ws ps (a .vertical) (tip high a) → ⊥) → number (tip high a) (marks ws ps) ≡ 2
+    pub count-two : (HeldApart ws ps (a .vertical) (tip high a) → ⊥) → number (tip high a) (marks ws ps) ≡ 2
     count-two f = omega (arith, counted, none-other (not (a .vertical)) (tip high a) (λ x. f (inl x)), no-pos (number (tip high a) ps) (λ l. f (inr (number-in (tip high a) ps l))))
 
-    pub count-above : Held ws ps (a .vertical) (tip high a) → 3 ≤ number (tip high a) (marks ws ps)
+    pub count-above : HeldApart ws ps (a .vertical) (tip high a) → 3 ≤ number (tip high a) (marks ws ps)
     count-above (inl s) = omega (arith, counted, some-end (not (a .vertical)) (tip high a) s)
     count-above (inr s) = omega (arith, counted, in-number s)

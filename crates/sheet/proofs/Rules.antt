@@ -15,11 +15,12 @@ use Rattle.sheet.specs.declared.Wire.{Wire}
 use Rattle.sheet.specs.declared.Component.{Component}
 use Rattle.sheet.specs.declared.Drawing.{Drawing}
 use Rattle.sheet.specs.Points.{Rise}
-use Rattle.sheet.specs.Joints.{Rising, Listed}
+use Rattle.sheet.specs.Joints.{Rising}
 use Rattle.sheet.specs.Parts.{position, padsOf, PartFits}
 use Rattle.sheet.specs.Drawings.{marksOf, joints, zeroWire, zeroComponent, zeroJoint, jointRows, listsOf, drawn, Sheet, Sized}
-use Rattle.sheet.specs.Wiring.{AllFit, Wired, Good, Room}
-use Rattle.sheet.specs.Rules.{Blank, Rule2, Rule3, Rule4, Rule5, Rule1, Lawful, Upward}
+use Rattle.sheet.specs.Wiring.{AllFit, Wired}
+use Rattle.sheet.proofs.Wiring.{Good, Roomy}
+use Rattle.sheet.specs.Rules.{Rule6, Blank, Rule2, Rule3, Rule4, Rule5, Rule1, Lawful, Upward}
 use Rattle.sheet.proofs.JointRows.{rules-6-7}
 use Rattle.sheet.proofs.Totals.{joint-room}
 use Rattle.sheet.proofs.RowOrder.{rules-2-7}
@@ -55,7 +56,7 @@ module _ {d : Drawing} (l : Lawful d) where
     apart = l .rule5;
   }
 
-  pub lawful-room : Room (listsOf d)
+  pub lawful-room : Roomy (listsOf d)
   lawful-room = record { wires = omega (arith, length-take (d .wires .count) (d .wires .rows), l .rule1 .wire-room); parts = omega (arith, length-take (d .components .count) (d .components .rows), l .rule1 .component-room) }
 
   -- rules 6 and 7: the joint rows are those of the sheet
@@ -92,7 +93,7 @@ pub drawn-joints : (s : Sheet) → jointRows (drawn s .joints) ≡ joints s
 unfolding drawn
 drawn-joints s = rows-used 1408 zeroJoint (joints s)
 
-module _ {s : Sheet} (room : Room s) where
+module _ {s : Sheet} (room : Roomy s) where
   pub drawn-lawful : Good s → Lawful (drawn s)
   drawn-lawful good =
       let w = wired-rules (s .wires) (padsOf (s .parts)) .0 (good .wires) in
@@ -105,7 +106,7 @@ module _ {s : Sheet} (room : Room s) where
         rule3 = subst (λ (t : Sheet). Rule3 (t .wires) (padsOf (t .parts))) e (w .rule3);
         rule4 = subst (λ (t : Sheet). Rule4 (t .wires) (padsOf (t .parts))) e (w .rule4);
         rule5 = subst (λ (t : Sheet). Rule5 (t .parts)) e (good .apart);
-        rule6 = subst₂ (λ t js. Listed js (marksOf t)) e f (j .1);
+        rule6 = subst₂ (λ t js. Rule6 js (marksOf t)) e f (j .1);
         rule7 = record {
           wires-rise = subst (λ (t : Sheet). Rows Upward (t .wires)) e (w .rise);
           components-rise = subst (λ (t : Sheet). Rows (λ b c. Rise (position b) (position c)) (t .parts)) e (good .order);
@@ -126,5 +127,5 @@ module _ {s : Sheet} (room : Room s) where
       }
 
 -- a drawing is lawful just where it is the drawing of a good sheet that has room
-pub lawful-is : (d : Drawing) → Sized d → Lawful d ↔ (Good (listsOf d) × Room (listsOf d) × (d ≡ drawn (listsOf d)))
+pub lawful-is : (d : Drawing) → Sized d → Lawful d ↔ (Good (listsOf d) × Roomy (listsOf d) × (d ≡ drawn (listsOf d)))
 lawful-is d z = (λ l. (lawful-good l, lawful-room l, lawful-drawn l z), λ t. subst Lawful (sym (t .2)) (drawn-lawful (t .1) (t .0)))

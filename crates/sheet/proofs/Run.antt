@@ -6,24 +6,25 @@ use native.Mathlib.Omega.{arith}
 use Rattle.lists.proofs.Tests.{decide, choose, eqb-reads}
 use Rattle.symbol.specs.declared.Point.{Point}
 use Rattle.sheet.specs.declared.Wire.{Wire}
-use Rattle.sheet.specs.Run.{addWire, drawWire, addPieces}
-use Rattle.sheet.specs.Wiring.{Fits, Drawable, Wired}
+use Rattle.sheet.specs.Run.{layWire, drawWire}
+use Rattle.sheet.specs.Wiring.{Fits, Wired}
+use Rattle.sheet.proofs.Wiring.{Drawable}
 use Rattle.sheet.proofs.Rest.{Draws}
 use Rattle.sheet.proofs.LaidWired.{result-wired}
 use Rattle.sheet.proofs.LaidAgain.{result-again}
-use Rattle.sheet.proofs.LaidPieces.{result-pieces}
+use Rattle.sheet.proofs.LaidPieces.{addPieces, result-pieces}
 
 module _ (n : Wire) (ws : List Wire) (ps : List Point) (fit : Fits n) (law : Wired ws ps) where
   abbrev edit : Draws
   edit = record { new = n; wires = ws; pads = ps; fit = fit; law = law }
 
-  pub laid-wired : Wired (addWire n ws ps) ps
+  pub laid-wired : Wired (layWire n ws ps) ps
   laid-wired = result-wired edit
 
-  pub laid-again : addWire n (addWire n ws ps) ps ≡ addWire n ws ps
+  pub laid-again : layWire n (layWire n ws ps) ps ≡ layWire n ws ps
   laid-again = result-again edit
 
-  pub pieces-laid : addPieces n ws ps ≡ addWire n ws ps
+  pub pieces-laid : addPieces n ws ps ≡ layWire n ws ps
   pieces-laid = result-pieces edit
 
 -- ---- with the zero-length wire
@@ -36,9 +37,9 @@ pub drawn-idle : (n : Wire) → n .start ≡ n .end → (ws : List Wire) (ps : L
 unfolding drawWire
 drawn-idle n e ws ps = choose (eqb-reads (n .start) (n .end)) (λ x. x ≡ ws) (λ k. refl) (λ f. absurd (f e))
 
-pub drawn-added : (n : Wire) → (n .start ≡ n .end → ⊥) → (ws : List Wire) (ps : List Point) → drawWire n ws ps ≡ addWire n ws ps
+pub drawn-added : (n : Wire) → (n .start ≡ n .end → ⊥) → (ws : List Wire) (ps : List Point) → drawWire n ws ps ≡ layWire n ws ps
 unfolding drawWire
-drawn-added n f ws ps = choose (eqb-reads (n .start) (n .end)) (λ x. x ≡ addWire n ws ps) (λ e. absurd (f e)) (λ k. refl)
+drawn-added n f ws ps = choose (eqb-reads (n .start) (n .end)) (λ x. x ≡ layWire n ws ps) (λ e. absurd (f e)) (λ k. refl)
 
 module _ (n : Wire) (ws : List Wire) (ps : List Point) (fit : Drawable n) (law : Wired ws ps) where
   pub drawn-wired : Wired (drawWire n ws ps) ps
@@ -48,5 +49,5 @@ module _ (n : Wire) (ws : List Wire) (ps : List Point) (fit : Drawable n) (law :
   pub drawn-again : drawWire n (drawWire n ws ps) ps ≡ drawWire n ws ps
   drawn-again = ⊎-elim
       (λ (e : n .start ≡ n .end). drawn-idle n e (drawWire n ws ps) ps)
-      (λ (f : n .start ≡ n .end → ⊥). ap (λ vs. drawWire n vs ps) (drawn-added n f ws ps) ∙ drawn-added n f (addWire n ws ps) ps ∙ laid-again n ws ps (long fit f) law ∙ sym (drawn-added n f ws ps))
+      (λ (f : n .start ≡ n .end → ⊥). ap (λ vs. drawWire n vs ps) (drawn-added n f ws ps) ∙ drawn-added n f (layWire n ws ps) ps ∙ laid-again n ws ps (long fit f) law ∙ sym (drawn-added n f ws ps))
       (decide (eqb-reads (n .start) (n .end)))

@@ -7,7 +7,7 @@ use Rattle.symbol.specs.declared.Point.{Point}
 use Rattle.sheet.specs.declared.Wire.{Wire}
 use Rattle.sheet.specs.Lines.{tip, marks, Ends, Inside, Follows, low, high}
 use Rattle.sheet.specs.Split.{splitAll}
-use Rattle.sheet.specs.Wiring.{Held, Wired}
+use Rattle.sheet.specs.Wiring.{HeldApart, Wired}
 use Rattle.sheet.proofs.Lines.{ends-at, HasEnd, marks-in, in-marks}
 use Rattle.sheet.proofs.Wiring.{follows-end, ended-as, held-at}
 use Rattle.sheet.proofs.Pieces.{within-inside, piece-end, Piece}
@@ -27,7 +27,7 @@ module _ (new : List Point) {ws : List Wire} {ps : List Point} (law : Wired ws p
       (λ (x : q ∈ marks ws ps). let t = all-from new m in law .clean .clear q x (t .0) (t .1) (within-inside (t .2 .within) i))
       (old-mark j)
 
-  anchored : (a b : Wire) → a ∈ splitAll new ws → b ∈ splitAll new ws → Follows a b → Held (splitAll new ws) (new ++ ps) (a .vertical) (tip high a)
+  anchored : (a b : Wire) → a ∈ splitAll new ws → b ∈ splitAll new ws → Follows a b → HeldApart (splitAll new ws) (new ++ ps) (a .vertical) (tip high a)
   anchored a b ma mb f = go (piece-end (ta .2) (ends-at high a)) (piece-end (tb .2) (follows-end f))
     where
       ta : (w : Wire) × w ∈ ws × Piece new w a
@@ -36,14 +36,14 @@ module _ (new : List Point) {ws : List Wire} {ps : List Point} (law : Wired ws p
       tb : (w : Wire) × w ∈ ws × Piece new w b
       tb = all-from new mb
 
-      move : Held ws ps (a .vertical) (tip high a) → Held (splitAll new ws) (new ++ ps) (a .vertical) (tip high a)
+      move : HeldApart ws ps (a .vertical) (tip high a) → HeldApart (splitAll new ws) (new ++ ps) (a .vertical) (tip high a)
       move (inr m) = inr (∈-right new m)
       move (inl r) = let s = end-stays new (law .clean .fits (r .wire) (r .among)) (r .among) (r .here) in inl (ended-as s (r .dir))
 
-      go : Ends high (tip high a) (ta .0) ⊎ (tip high a ∈ new × Inside (tip high a) (ta .0)) → Ends low (tip high a) (tb .0) ⊎ (tip high a ∈ new × Inside (tip high a) (tb .0)) → Held (splitAll new ws) (new ++ ps) (a .vertical) (tip high a)
+      go : Ends high (tip high a) (ta .0) ⊎ (tip high a ∈ new × Inside (tip high a) (ta .0)) → Ends low (tip high a) (tb .0) ⊎ (tip high a ∈ new × Inside (tip high a) (tb .0)) → HeldApart (splitAll new ws) (new ++ ps) (a .vertical) (tip high a)
       go (inr x) y = inr (∈-left ps (x .0))
       go (inl x) (inr y) = inr (∈-left ps (y .0))
-      go (inl x) (inl y) = move (subst (λ d. Held ws ps d (tip high a)) (sym (ta .2 .within .dir)) (held-at law (ta .1) (tb .1) (sym (ta .2 .within .dir) ∙ f .dir ∙ tb .2 .within .dir) x y))
+      go (inl x) (inl y) = move (subst (λ d. HeldApart ws ps d (tip high a)) (sym (ta .2 .within .dir)) (held-at law (ta .1) (tb .1) (sym (ta .2 .within .dir) ∙ f .dir ∙ tb .2 .within .dir) x y))
 
   pub split-wired : Wired (splitAll new ws) (new ++ ps)
   split-wired = record { clean = record { fits = λ v m. let t = all-from new m in t .2 .fits (law .clean .fits (t .0) (t .1)); order = all-order new (law .clean .order); clear = clear }; anchored = anchored }

@@ -7,7 +7,7 @@ use Rattle.lists.proofs.Lists.{length-gather}
 use Rattle.sheet.specs.Lines.{ends}
 use Rattle.sheet.specs.Parts.{pads, padsOf}
 use Rattle.sheet.specs.Drawings.{marksOf, joints, tallyOf, Sheet}
-use Rattle.sheet.specs.Wiring.{Room}
+use Rattle.sheet.proofs.Wiring.{Roomy}
 use Rattle.sheet.proofs.JointRows.{total-joints, length-joints, length-ends}
 use Rattle.sheet.proofs.Parts.{length-pads}
 
@@ -21,5 +21,5 @@ unfolding joints
 joints-few s = omega (arith, length-joints (marksOf s), length-append (ends (s .wires)) (padsOf (s .parts)), length-ends (s .wires), length-gather pads length-pads (s .parts))
 
 -- "1,408 joints (twice 512 and three times 128, so joints can't run out)"
-pub joint-room : {s : Sheet} → Room s → length (joints s) ≤ 1408
+pub joint-room : {s : Sheet} → Roomy s → length (joints s) ≤ 1408
 joint-room {s} room = omega (arith, joints-few s, room .wires, room .parts)

@@ -19,7 +19,7 @@ use Rattle.sheet.specs.Lines.{at}
 use Rattle.sheet.specs.Boxes.{Shares}
 use Rattle.sheet.specs.Parts.{position, box, turnedRight, mirrored, PartFits}
 use Rattle.sheet.specs.Drawings.{Sheet}
-use Rattle.sheet.specs.Wiring.{Good}
+use Rattle.sheet.proofs.Wiring.{Good}
 use Rattle.sheet.specs.Edits.{remove, meetsPart, placeAll, turn, hits, turnRight, mirror, Outcome}
 use Rattle.sheet.proofs.Points.{rise-asym}
 use Rattle.sheet.proofs.Boxes.{shares-mirror}

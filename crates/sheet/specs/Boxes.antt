@@ -1,4 +1,4 @@
--- What the square about the pointer meets, edges counted. Two boxes share a point: `Shares`.
+-- "the square of half-width size about the pointer, edges counted", and what it meets. Two boxes share a point: `Shares`.
 use Prim.Native.Nat.{ℕ, _+_, _-_}
 use Rattle.symbol.specs.declared.Point.{Point}
 use Rattle.symbol.specs.declared.Bounds.{Bounds}
@@ -6,7 +6,7 @@ pub use Rattle.symbol.specs.Boxes.{Shares}
 use Rattle.sheet.specs.declared.Wire.{Wire}
 use Rattle.sheet.specs.Lines.{low, high, tip}
 
--- the square of half-width size about the pointer; what lies below the lowest coordinate holds no point of a drawing
+-- the square; what lies below the lowest coordinate holds no point of a drawing
 abbrev pub square : Point → ℕ → Bounds
 square p size = record {
   low = record { x = p .x - size; y = p .y - size };

@@ -38,32 +38,39 @@ joints s = jointsOf (marksOf s)
 
 -- ---- rows of zeros, and tables
 
+-- a wire of zeros: "no for horizontal, as in a zero row"
 abbrev pub zeroWire : Wire
 zeroWire = record { vertical = false; line = 0; start = 0; end = 0 }
 
+-- a component of zeros
 abbrev pub zeroComponent : Component
 zeroComponent = record { kind = 0; «rot_mirror» = zeros; x = 0; y = 0; label = replicate 16 0 }
 
+-- a joint of zeros
 abbrev pub zeroJoint : Joint
 zeroJoint = record { x = 0; y = 0; count = 0 }
 
--- "512 wires, 128 components, 1,408 joints"; rows beyond the count are all zero
+-- the table of wires. "512 wires, 128 components, 1,408 joints"; "rows beyond the counts are all zero"
 abbrev pub wireTable : List Wire → Wires
 wireTable ws = record { rows = pad 512 zeroWire ws; count = length ws }
 
+-- the table of components
 abbrev pub componentTable : List Component → Components
 componentTable cs = record { rows = pad 128 zeroComponent cs; count = length cs }
 
+-- the table of joints
 abbrev pub jointTable : List Joint → Joints
 jointTable js = record { rows = pad 1408 zeroJoint js; count = length js }
 
--- the rows in use
+-- the wires in use
 abbrev pub wireRows : Wires → List Wire
 wireRows t = take (t .count) (t .rows)
 
+-- the components in use
 abbrev pub componentRows : Components → List Component
 componentRows t = take (t .count) (t .rows)
 
+-- the joints in use
 abbrev pub jointRows : Joints → List Joint
 jointRows t = take (t .count) (t .rows)
 

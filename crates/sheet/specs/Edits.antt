@@ -20,8 +20,8 @@ unfoldable pub wire : Wire → Sheet → Sheet
 wire n s = record { wires = drawWire n (s .wires) (padsOf (s .parts)); parts = s .parts }
 
 -- "Place. Each pad splits each wire that it lies strictly inside, then counts one."
-unfoldable pub place : Component → Sheet → Sheet
-place c s = record { wires = splitAll (pads c) (s .wires); parts = insert ahead c (s .parts) }
+unfoldable pub placeOne : Component → Sheet → Sheet
+placeOne c s = record { wires = splitAll (pads c) (s .wires); parts = insert ahead c (s .parts) }
 
 -- without the wires that f meets and the components that g meets; "A point that falls from 3 or more to exactly two wire ends in line,
 -- without a pad, becomes one wire. A corner does not." That 3 or more stood there is not tested: where wires of a lawful drawing are
@@ -64,7 +64,7 @@ gone o = record { sheet = o .sheet; lost = suc (o .lost) }
 -- each is placed in turn; "one that would touch a component is lost"
 unfoldable pub placeAll : List Component → Sheet → Placed
 placeAll [] s = record { sheet = s; lost = zero }
-placeAll (c ∷ cs) s = cond (any (touches c) (s .parts)) (gone (placeAll cs s)) (placeAll cs (place c s))
+placeAll (c ∷ cs) s = cond (any (touches c) (s .parts)) (gone (placeAll cs s)) (placeAll cs (placeOne c s))
 
 -- "Take out every contact that the square meets, merge as in delete, then place each again, altered, by rising (y, x) of position."
 unfoldable pub turn : (Component → Bool) → (Component → Component) → Sheet → Outcome

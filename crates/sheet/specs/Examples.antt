@@ -14,7 +14,7 @@ use Rattle.sheet.specs.declared.Joint.{Joint}
 use Rattle.sheet.specs.Joints.{countAt, total}
 use Rattle.sheet.specs.Parts.{touches, turnedRight}
 use Rattle.sheet.specs.Drawings.{Sheet, emptySheet, joints}
-use Rattle.sheet.specs.Edits.{wire, place, delete, turnRight}
+use Rattle.sheet.specs.Edits.{wire, placeOne, delete, turnRight}
 
 -- `h Y X1 X2`
 abbrev pub h : ℕ → ℕ → ℕ → Wire
@@ -57,8 +57,8 @@ abbrev pub crossed : Sheet
 crossed = wire (v 6050 5960 6040) single
 
 -- then `h 0 50 60`
-abbrev pub joined : Sheet
-joined = wire (h 6000 6050 6060) crossed
+abbrev pub joinedCrossing : Sheet
+joinedCrossing = wire (h 6000 6050 6060) crossed
 
 -- `h 0 0 100`, `v 100 0 50`
 abbrev pub corner : Sheet
@@ -66,19 +66,20 @@ corner = wire (v 6100 6000 6050) single
 
 -- contacts at (0,0) and (101,0)
 abbrev pub two : Sheet
-two = place (contact 6101 6000) (place (contact 6000 6000) emptySheet)
+two = placeOne (contact 6101 6000) (placeOne (contact 6000 6000) emptySheet)
 
 -- wire y = −100 from −200 to 200, contact at (0,0)
 abbrev pub onWire : Sheet
-onWire = place (contact 6000 6000) (wire (h 5900 5800 6200) emptySheet)
+onWire = placeOne (contact 6000 6000) (wire (h 5900 5800 6200) emptySheet)
 
--- the script of the whole output: `p 0 0 0 0`, `p 2 0 0 400 K1`, `p 1 0 300 0 K1`, `v 0 0 300`, `h 0 0 200`, `v 200 -100 0`, `h -100 200 300`
+-- the script of the whole output: `p 0 0 0 0`, `p 2 0 0 400 K1`, `p 1 0 300 0 K1`, `v 0 0 300`, `h 0 0 200`, `v 200 -100 0`, `h -100 200
+-- 300`
 abbrev pub script : Sheet
 script =
     let K1 : List ℕ = 75 ∷ 49 ∷ replicate 14 0 in
-    let s : Sheet = place (part 0 6000 6000 unlabelled) emptySheet in
-    let s : Sheet = place (part 2 6000 6400 K1) s in
-    let s : Sheet = place (part 1 6300 6000 K1) s in
+    let s : Sheet = placeOne (part 0 6000 6000 unlabelled) emptySheet in
+    let s : Sheet = placeOne (part 2 6000 6400 K1) s in
+    let s : Sheet = placeOne (part 1 6300 6000 K1) s in
     wire (h 5900 6200 6300) (wire (v 6200 5900 6000) (wire (h 6000 6000 6200) (wire (v 6000 6000 6300) s)))
 
 -- what holds of them
@@ -94,8 +95,8 @@ pub record Board : Type 0 where
   pub bare : crossed .wires ≡ h 6000 6000 6100 ∷ v 6050 5960 6040 ∷ []
   pub bare-count : countAt (pt 6050 6000) (joints crossed) ≡ 0
   -- four wires, (50,0) has 4
-  pub four : joined .wires ≡ h 6000 6000 6050 ∷ h 6000 6050 6100 ∷ v 6050 5960 6000 ∷ v 6050 6000 6040 ∷ []
-  pub four-count : countAt (pt 6050 6000) (joints joined) ≡ 4
+  pub four : joinedCrossing .wires ≡ h 6000 6000 6050 ∷ h 6000 6050 6100 ∷ v 6050 5960 6000 ∷ v 6050 6000 6040 ∷ []
+  pub four-count : countAt (pt 6050 6000) (joints joinedCrossing) ≡ 4
   -- `h 0 0 50`, `h 0 50 100`: one wire
   pub one : wire (h 6000 6050 6100) (wire (h 6000 6000 6050) emptySheet) ≡ single
   -- two wires, the corner has 2
@@ -120,4 +121,4 @@ pub record Board : Type 0 where
   -- "without a pad": `d -1000 -1000 0` meets nothing, and the two wires in line stay apart at the pad
   pub pad-stays : delete (pt 5000 5000) 0 onWire ≡ onWire
   -- "Three easy slips": not merged at a corner (above), not joined at a bare crossing (`bare`), cut at a pad under the new wire's middle
-  pub under : wire (h 5900 5800 6200) (place (contact 6000 6000) emptySheet) ≡ onWire
+  pub under : wire (h 5900 5800 6200) (placeOne (contact 6000 6000) emptySheet) ≡ onWire

@@ -1,10 +1,8 @@
--- Joint rows: the points with a wire end or a pad, and the number of both.
+-- Joint rows: "each point with a wire end or pad once, with the number of both".
 use Prim.Native.Nat.{ℕ, zero, suc, _+_}
 use mathlib.Core.Bool.{cond}
 use mathlib.Core.List.{List, [], _∷_}
-use mathlib.Core.Path.{_≡_}
-use mathlib.Core.Logic.{_≢_}
-use Rattle.lists.specs.Lists.{_∈_, Rows}
+use Rattle.lists.specs.Lists.{Rows}
 use Rattle.symbol.specs.declared.Point.{Point}
 use Rattle.sheet.specs.declared.Joint.{Joint}
 use Rattle.sheet.specs.Points.{same, Rise, rises}
@@ -44,13 +42,6 @@ total (j ∷ js) = j .count + total js
 unfoldable pub countAt : Point → List Joint → ℕ
 countAt p [] = zero
 countAt p (j ∷ js) = cond (same p (place j)) (j .count) (countAt p js)
-
--- "The joint rows list each point with a wire end or pad once, with the number of both, and nothing else"
-pub record Listed (js : List Joint) (ps : List Point) : Type 0 where
-  pub once : Rows (λ i j. place i ≢ place j) js
-  pub all : (p : Point) → p ∈ ps → (j : Joint) × j ∈ js × (place j ≡ p)
-  pub only : (j : Joint) → j ∈ js → place j ∈ ps
-  pub right : (j : Joint) → j ∈ js → j .count ≡ number (place j) ps
 
 -- joint rows strictly rise by (y, x)
 abbrev pub Rising : List Joint → Type 0

@@ -1,4 +1,5 @@
--- Wire geometry: points against wires, wires against wires. A wire is vertical or not; coordinates are 6,000 higher than in document 01.
+-- Wire geometry: points against wires, wires against wires. "Direction of a wire: a yes or no, no for horizontal"; coordinates are 6,000
+-- higher than in document 01.
 use Prim.Native.Nat.{ℕ, _≤_, _<_}
 use mathlib.Core.Bool.{Bool, true, false, _&&_, cond, not, Bool·beq}
 use mathlib.Core.List.{List, [], _∷_, _++_}
@@ -26,11 +27,6 @@ point false l m = record { x = m; y = l }
 -- the two ends of a wire: where it starts, and where it ends
 pub data Side : Type 0 where
   low high : Side
-
--- the other end
-abbrev pub other : Side → Side
-other low = high
-other high = low
 
 -- the place of an end
 abbrev pub at : Side → Wire → ℕ
@@ -64,7 +60,7 @@ pub record Ends (s : Side) (p : Point) (w : Wire) : Type 0 where
 abbrev pub EndAt : Point → Wire → Type 0
 EndAt p w = (s : Side) × Ends s p w
 
--- the point lies strictly inside the wire
+-- "strictly inside a wire": the point lies between its ends
 pub record Inside (p : Point) (w : Wire) : Type 0 where
   pub line : w .line ≡ across (w .vertical) p
   pub from : w .start < along (w .vertical) p
@@ -75,18 +71,12 @@ unfoldable pub inside : Point → Wire → Bool
 inside p w = eqb (w .line) (across (w .vertical) p) && (ltb (w .start) (along (w .vertical) p) && ltb (along (w .vertical) p) (w .end))
 
 -- the point lies on the wire, both ends included
-pub record On (p : Point) (w : Wire) : Type 0 where
-  pub line : w .line ≡ across (w .vertical) p
-  pub from : w .start ≤ along (w .vertical) p
-  pub to : along (w .vertical) p ≤ w .end
-
--- the test for it
 unfoldable pub on : Point → Wire → Bool
 on p w = eqb (w .line) (across (w .vertical) p) && (leb (w .start) (along (w .vertical) p) && leb (along (w .vertical) p) (w .end))
 
 -- ---- two wires
 
--- w is of the same direction as n and meets it, an end touch included
+-- "each wire of the same direction that meets the new one, an end touch included": w meets n
 pub record Meets (n w : Wire) : Type 0 where
   pub dir : n .vertical ≡ w .vertical
   pub line : n .line ≡ w .line

@@ -9,9 +9,10 @@ use Rattle.lists.specs.Lists.{any}
 use Rattle.sheet.specs.Points.{same}
 use Rattle.sheet.specs.Lines.{tip, low, high}
 
--- the test for `Held`: the point has more than "exactly two wire ends in line, without a pad", namely an end of the other direction or a pad
-unfoldable pub held : List Wire → List Point → Bool → Point → Bool
-held ws ps d p = any (λ w. Bool·beq (w .vertical) (not d) && (same p (tip low w) || same p (tip high w))) ws || any (same p) ps
+-- the test for `HeldApart`: the point has more than "exactly two wire ends in line, without a pad", namely an end of the other direction
+-- or a pad
+unfoldable pub heldApart : List Wire → List Point → Bool → Point → Bool
+heldApart ws ps d p = any (λ w. Bool·beq (w .vertical) (not d) && (same p (tip low w) || same p (tip high w))) ws || any (same p) ps
 
 -- "two wire ends in line": b goes on in line where a ends, and h does not hold them apart; "A corner does not"
 unfoldable pub joins : (Bool → Point → Bool) → Wire → Wire → Bool
@@ -35,9 +36,4 @@ mergeBy h (w ∷ ws) = glue h w (mergeBy h ws)
 -- wires of a lawful drawing stay as they are (proofs/Merge: merge-same), so that a delete far away joins nothing; and where what is kept
 -- of them joins, the point falls "from 3 or more" (proofs/MergeCount: fell).
 unfoldable pub merge : List Wire → List Point → List Wire
-merge ws ps = mergeBy (held ws ps) ws
-
--- the same from the front, with a the wire still open
-unfoldable pub mergeFrom : (Bool → Point → Bool) → Wire → List Wire → List Wire
-mergeFrom h a [] = a ∷ []
-mergeFrom h a (b ∷ bs) = cond (joins h a b) (mergeFrom h (join a b) bs) (a ∷ mergeFrom h b bs)
+merge ws ps = mergeBy (heldApart ws ps) ws

@@ -2,14 +2,14 @@
 use Prim.Native.Nat.{_≤_}
 use mathlib.Core.Bool.{Bool}
 use mathlib.Core.List.{List}
-use lib.Dec.{T, eqb}
+use lib.Dec.{T}
 use Rattle.lists.specs.Lists.{gather}
 use Rattle.orientation.specs.declared.RotMirror.{RotMirror}
 use Rattle.orientation.specs.Orientations.{known, rightOf, mirrorOf}
 use Rattle.label.specs.Labels.{labelOk}
 use Rattle.symbol.specs.declared.Point.{Point}
 use Rattle.symbol.specs.declared.Bounds.{Bounds}
-use Rattle.symbol.specs.Symbols.{padPoints, boundsAt, touchesOf}
+use Rattle.symbol.specs.Symbols.{canTurn, padPoints, boundsAt, touchesOf}
 use Rattle.sheet.specs.declared.Component.{Component}
 use Rattle.sheet.specs.Points.{rises}
 
@@ -46,9 +46,9 @@ pub record PartFits (c : Component) : Type 0 where
   pub y : (200 ≤ c .y) × (c .y ≤ 11800)
   pub label : T (labelOk (c .label))
 
--- "Only contacts turn or mirror in place"
+-- the component is a contact
 abbrev pub isContact : Component → Bool
-isContact c = eqb (c .kind) 1
+isContact c = canTurn (c .kind)
 
 -- the component with another orientation
 abbrev pub reoriented : (RotMirror → RotMirror) → Component → Component

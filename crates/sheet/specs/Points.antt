@@ -1,4 +1,4 @@
--- Points: which are one, and their row order.
+-- Points: which are one, and their row order, "by (y, x)".
 use Prim.Native.Nat.{_<_}
 use mathlib.Core.Bool.{Bool, _&&_, _||_}
 use mathlib.Core.Path.{_≡_}

@@ -3,6 +3,7 @@ use Prim.Native.Nat.{ℕ, _≤_, _<_}
 use mathlib.Core.Bool.{Bool, false, true, not, Bool·beq}
 use mathlib.Core.List.{List}
 use mathlib.Core.Path.{_≡_}
+use mathlib.Core.Logic.{_≢_}
 use lib.ListN.{drop}
 use Rattle.lists.specs.Lists.{_∈_, Rows, keep}
 use Rattle.symbol.specs.declared.Point.{Point}
@@ -14,7 +15,7 @@ use Rattle.sheet.specs.Points.{Rise}
 use Rattle.sheet.specs.Lines.{ends, marks, Inside}
 use Rattle.sheet.specs.Wiring.{Fits}
 use Rattle.sheet.specs.Boxes.{Shares}
-use Rattle.sheet.specs.Joints.{number, Listed, Rising}
+use Rattle.sheet.specs.Joints.{place, number, Rising}
 use Rattle.sheet.specs.Parts.{position, box, padsOf, PartFits}
 use Rattle.sheet.specs.Drawings.{Sheet, marksOf, zeroWire, zeroComponent, zeroJoint, listsOf, jointRows}
 
@@ -39,7 +40,8 @@ endsAt d ws p = number p (ends (keep (λ w. Bool·beq (w .vertical) d) ws))
 abbrev pub Blank : {A : Type 0} → A → ℕ → List A → Type 0
 Blank {A} z n rows = (x : A) → x ∈ drop n rows → x ≡ z
 
--- 1: "counts are within the rooms, rows beyond the counts are all zero, and each wire and component meets the limits, a wire with start < end"
+-- 1: "counts are within the rooms, rows beyond the counts are all zero, and each wire and component meets the limits, a wire with start <
+-- end"
 pub record Rule1 (d : Drawing) : Type 0 where
   pub wire-room : d .wires .count ≤ 512
   pub component-room : d .components .count ≤ 128
@@ -67,8 +69,11 @@ abbrev pub Rule5 : List Component → Type 0
 Rule5 cs = Rows (λ b c. Shares (box b) (box c) → ⊥) cs
 
 -- 6: "the joint rows list each point with a wire end or pad once, with the number of both, and nothing else"
-abbrev pub Rule6 : List Joint → List Point → Type 0
-Rule6 js ps = Listed js ps
+pub record Rule6 (js : List Joint) (ps : List Point) : Type 0 where
+  pub once : Rows (λ i j. place i ≢ place j) js
+  pub all : (p : Point) → p ∈ ps → (j : Joint) × j ∈ js × (place j ≡ p)
+  pub only : (j : Joint) → j ∈ js → place j ∈ ps
+  pub right : (j : Joint) → j ∈ js → j .count ≡ number (place j) ps
 
 -- 7: "rows strictly rise: horizontal wires by (y, x1), then vertical by (x, y1); components and joints by (y, x)"
 pub record Rule7 (s : Sheet) (js : List Joint) : Type 0 where

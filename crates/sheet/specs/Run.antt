@@ -5,7 +5,7 @@ use mathlib.Core.List.{List, [], _∷_}
 use lib.Dec.{eqb}
 use Rattle.sheet.specs.declared.Wire.{Wire}
 use Rattle.symbol.specs.declared.Point.{Point}
-use Rattle.lists.specs.Lists.{keep, insert, insertAll}
+use Rattle.lists.specs.Lists.{keep, insert}
 use Rattle.sheet.specs.Lines.{tips, marks, on, meets, first}
 use Rattle.sheet.specs.Split.{splitAll}
 
@@ -36,13 +36,9 @@ unfoldable pub lay : Wire → Wire → List Wire → List Point → List Wire
 lay n r ws ps = splitAll (standing n ws ps) (insert first r ws)
 
 -- "Wire.", the whole: the new wire n among the wires ws and the pads ps
-unfoldable pub addWire : Wire → List Wire → List Point → List Wire
-addWire n ws ps = lay n (run n ws) (rest n ws) ps
+unfoldable pub layWire : Wire → List Wire → List Point → List Wire
+layWire n ws ps = lay n (run n ws) (rest n ws) ps
 
 -- "A zero-length wire inside the range gives 0 and the drawing as it was"
 unfoldable pub drawWire : Wire → List Wire → List Point → List Wire
-drawWire n ws ps = cond (eqb (n .start) (n .end)) ws (addWire n ws ps)
-
--- "Cut the run .." and nothing else: the same edit with the run cut alone, and its pieces put in
-unfoldable pub addPieces : Wire → List Wire → List Point → List Wire
-addPieces n ws ps = insertAll first (splitAll (standing n (rest n ws) ps) (run n ws ∷ [])) (rest n ws)
+drawWire n ws ps = cond (eqb (n .start) (n .end)) ws (layWire n ws ps)

@@ -1,4 +1,5 @@
 -- Splitting wires at points (document 01, "Edits", "Wire." and "Place.").
+use Prim.Native.Nat.{ℕ}
 use mathlib.Core.Bool.{cond}
 use mathlib.Core.List.{List, [], _∷_}
 use Rattle.sheet.specs.declared.Wire.{Wire}
@@ -6,13 +7,21 @@ use Rattle.symbol.specs.declared.Point.{Point}
 use Rattle.lists.specs.Lists.{gather}
 use Rattle.sheet.specs.Lines.{along, inside}
 
+-- the part of a wire up to a place along it
+abbrev pub upTo : ℕ → Wire → Wire
+upTo a w = record { vertical = w .vertical; line = w .line; start = w .start; end = a }
+
+-- and the part from it
+abbrev pub fromOn : ℕ → Wire → Wire
+fromOn a w = record { vertical = w .vertical; line = w .line; start = a; end = w .end }
+
 -- the part of the wire up to the point
 abbrev pub left : Point → Wire → Wire
-left p w = record { vertical = w .vertical; line = w .line; start = w .start; end = along (w .vertical) p }
+left p w = upTo (along (w .vertical) p) w
 
 -- and the part from it
 abbrev pub right : Point → Wire → Wire
-right p w = record { vertical = w .vertical; line = w .line; start = along (w .vertical) p; end = w .end }
+right p w = fromOn (along (w .vertical) p) w
 
 -- "strictly inside": a point there splits the wire, an end of it does not
 unfoldable pub splitOne : Point → Wire → List Wire

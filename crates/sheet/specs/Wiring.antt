@@ -1,4 +1,5 @@
--- The rules in the form that the edits' laws use, on rows in order. `Rules` words them as document 01 does; that both say the same is proved.
+-- The rules in the form that the edits' laws use, on rows in order. `Rules` words them as document 01 does ("A drawing is lawful when");
+-- that both say the same is proved.
 use Prim.Native.Nat.{_≤_, _<_}
 use mathlib.Core.Bool.{Bool, not}
 use mathlib.Core.List.{List}
@@ -8,12 +9,6 @@ use Rattle.sheet.specs.declared.Wire.{Wire}
 use Rattle.symbol.specs.declared.Point.{Point}
 use Rattle.lists.specs.Lists.{_∈_, Rows}
 use Rattle.sheet.specs.Lines.{high, tip, marks, EndAt, Inside, Follows, Before}
-use Rattle.sheet.specs.declared.Component.{Component}
-use Rattle.sheet.specs.Points.{Rise}
-use Rattle.sheet.specs.Boxes.{Shares}
-use Rattle.sheet.specs.Parts.{position, box, padsOf, PartFits}
-use Rattle.sheet.specs.Drawings.{Sheet}
-use lib.ListN.{length}
 
 -- a wire of the direction has an end at the point
 pub record Ended (ws : List Wire) (d : Bool) (p : Point) : Type 0 where
@@ -23,20 +18,14 @@ pub record Ended (ws : List Wire) (d : Bool) (p : Point) : Type 0 where
   pub here : EndAt p wire
 
 -- what keeps two wires of the direction apart at the point: an end of a wire of the other direction, or a pad
-abbrev pub Held : List Wire → List Point → Bool → Point → Type 0
-Held ws ps d p = Ended ws (not d) p ⊎ (p ∈ ps)
+abbrev pub HeldApart : List Wire → List Point → Bool → Point → Type 0
+HeldApart ws ps d p = Ended ws (not d) p ⊎ (p ∈ ps)
 
 -- the wire meets the limits, with start < end
 pub record Fits (w : Wire) : Type 0 where
   pub line : w .line ≤ 12000
   pub long : w .start < w .end
   pub end : w .end ≤ 12000
-
--- the wire may be drawn: coordinates in range, the start not greater than the end
-pub record Drawable (n : Wire) : Type 0 where
-  pub line : n .line ≤ 12000
-  pub order : n .start ≤ n .end
-  pub end : n .end ≤ 12000
 
 -- each wire of the list meets the limits
 abbrev pub AllFit : List Wire → Type 0
@@ -52,16 +41,4 @@ pub record Clean (ws : List Wire) (ps : List Point) : Type 0 where
 -- and rule 4
 pub record Wired (ws : List Wire) (ps : List Point) : Type 0 where
   pub clean : Clean ws ps
-  pub anchored : (a b : Wire) → a ∈ ws → b ∈ ws → Follows a b → Held ws ps (a .vertical) (tip high a)
-
--- rules 1 to 5 and 7 of a sheet, without the rooms
-pub record Good (s : Sheet) : Type 0 where
-  pub wires : Wired (s .wires) (padsOf (s .parts))
-  pub fits : (c : Component) → c ∈ s .parts → PartFits c
-  pub order : Rows (λ b c. Rise (position b) (position c)) (s .parts)
-  pub apart : Rows (λ b c. Shares (box b) (box c) → ⊥) (s .parts)
-
--- the sheet has room in the tables
-pub record Room (s : Sheet) : Type 0 where
-  pub wires : length (s .wires) ≤ 512
-  pub parts : length (s .parts) ≤ 128
+  pub anchored : (a b : Wire) → a ∈ ws → b ∈ ws → Follows a b → HeldApart ws ps (a .vertical) (tip high a)

@@ -15,7 +15,7 @@ use Rattle.sheet.specs.Edits.{Outcome}
 use Rattle.asked.specs.Asked.{askedPart}
 use Rattle.edits.specs.Making.{roomy}
 use Rattle.redraw.specs.declared.Edited.{Edited}
-use Rattle.redraw.specs.Calls.{refused, unless, done, edited, addWire, addComponent, pointed, deleteAt, rotateAt, mirrorAt}
+use Rattle.redraw.specs.Calls.{refused, refusedUnless, editDone, edited, addWire, addComponent, pointed, deleteAt, rotateAt, mirrorAt}
 use Rattle.redraw.proofs.Asking.{wire-decides, part-decides, pointer-decides}
 use Rattle.redraw.proofs.Laws.{by-reply}
 
@@ -28,13 +28,13 @@ module _ (d : Drawing) (t : Tally) where
   pub refused-kept : (n : ℕ) → Kept d (refused n d t)
   refused-kept n = record { drawing = λ _. refl; hit = λ _. refl; lost = λ _. refl }
 
-  unless-kept : (b : Bool) (n : ℕ) {e : Edited} → Kept d e → Kept d (unless b n d t e)
+  unless-kept : (b : Bool) (n : ℕ) {e : Edited} → Kept d e → Kept d (refusedUnless b n d t e)
   unless-kept true n k = k
   unless-kept false n k = refused-kept n
 
   edited-kept : (o : Outcome) → Kept d (edited d t o)
   unfolding edited
-  edited-kept o = unless-kept (roomy (o .sheet)) 7 {e = done o} (record { drawing = λ f. absurd (f refl); hit = λ f. absurd (f refl); lost = λ f. absurd (f refl) })
+  edited-kept o = unless-kept (roomy (o .sheet)) 7 {e = editDone o} (record { drawing = λ f. absurd (f refl); hit = λ f. absurd (f refl); lost = λ f. absurd (f refl) })
 
   pub wire-kept : (v : Bool) (l s e : ℤ) → Kept d (addWire d v l s e t)
   wire-kept v l s e = by-reply (Kept d) (wire-decides d v l s e t refl) (λ f. refused-kept _) (λ z. edited-kept _)

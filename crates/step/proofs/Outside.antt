@@ -13,7 +13,7 @@ use Rattle.orientation.specs.Orientations.{sameOf, numberOf, known, numberedOf}
 use Rattle.label.specs.declared.Label.{Label}
 use Rattle.sheet.specs.declared.Drawing.{Drawing}
 use Rattle.sheet.specs.declared.Tally.{Tally}
-use Rattle.redraw.specs.Calls.{refused, unless, addComponent}
+use Rattle.redraw.specs.Calls.{refused, refusedUnless, addComponent}
 use Rattle.step.specs.Steps.{choiceOf}
 
 -- a number outside 0 to m

@@ -18,7 +18,7 @@ use Rattle.orientation.specs.declared.RotMirror.{RotMirror}
 use Rattle.edge.specs.Coordinates.{coordOf, biased}
 use Rattle.edge.proofs.Whole.{row-plus-left, row-minus-left, row-plus-right, row-minus-right, size-neg, size-added, added, pos-sub, neg-sub-suc}
 use Rattle.edge.proofs.Places.{back}
-use Rattle.symbol.specs.Symbols.{Offset, applied, movedOf, padsAt, padPoints, lowAt, highAt, boundsAt, Sound}
+use Rattle.symbol.specs.Symbols.{Offset, applied, movedOf, padsAt, padPoints, lowAt, highAt, boundsAt, Positioned}
 use Rattle.symbol.specs.declared.Point.{Point}
 
 -- a row gives no greater number than those it is given
@@ -73,14 +73,14 @@ pub record Ranged (p : Point) : Type 0 where
   pub in-x : (50 ≤ p .x) × (p .x ≤ 11950)
   pub in-y : (50 ≤ p .y) × (p .y ≤ 11950)
 
-reached-ranged : {o : RotMirror} {x y : ℕ} {p : Point} → Sound o x y → Reached x y p → Ranged p
+reached-ranged : {o : RotMirror} {x y : ℕ} {p : Point} → Positioned o x y → Reached x y p → Ranged p
 reached-ranged s r = record { in-x = (omega arith, omega arith); in-y = (omega arith, omega arith) }
 
 put-reach : (p : ℕ) (z : ℤ) → 200 ≤ p → natAbs z ≤ 150 → (p ≤ biased (coordOf p +ℤ z) + 150) × (biased (coordOf p +ℤ z) ≤ p + 150)
 put-reach p (pos n) f h = let e = added p n 0 (pos n) (pos-sub n) in (omega arith, omega arith)
 put-reach p (negsuc n) f h = let e = added p 0 (suc n) (negsuc n) (neg-sub-suc n) in (omega arith, omega arith)
 
-module _ (o : RotMirror) (x y : ℕ) (s : Sound o x y) where
+module _ (o : RotMirror) (x y : ℕ) (s : Positioned o x y) where
   pub exact : (q : Offset) → T (near q) → Exact o x y q
   exact q t = record {
     in-x = put-exact x (applied o q .dx) (s .left) (s .right) (turned-x o (s .turned) q t);

@@ -11,7 +11,7 @@ use Rattle.orientation.specs.Orientations.{known}
 use Rattle.orientation.specs.declared.RotMirror.{RotMirror}
 use Rattle.orientation.proofs.Turns.{is-known}
 use Rattle.edge.specs.Coordinates.{insideOf}
-use Rattle.symbol.specs.Symbols.{knownSymbol, unused, block, boxOf, refusalOf, padBlock, boundsAt, padsFor, boundsFor, padsOf, aabbOf, Placeable}
+use Rattle.symbol.specs.Symbols.{knownSymbol, unused, block, boxOf, refusalOf, padBlock, boundsAt, padsFor, boundsFor, padsReplyOf, aabbOf, Placeable}
 use Rattle.symbol.specs.declared.PadBlock.{PadBlock}
 use Rattle.symbol.specs.declared.PadsReply.{PadsReply}
 use Rattle.symbol.specs.declared.Bounds.{Bounds}
@@ -61,12 +61,12 @@ module _ (kind : ℕ) (o : RotMirror) (x y : ℕ) where
       sym (refuse true true (λ i. le-leb kind 2 (h .of-kind) i && is-known o (s .turned) i) (λ i. row x (s .left) (s .right) i && row y (s .top) (s .bottom) i))
 
   -- ---- the answers: zeros where the call is refused, else what the drawing of a lawful component gives
-  pub pads-refused : (r : ℕ) → r ≡ refusalOf kind o x y → (r ≡ 0 → ⊥) → _≡_ {A = PadsReply} (record { reply = r; pads = block [] }) (padsOf kind o x y)
-  unfolding padsOf
+  pub pads-refused : (r : ℕ) → r ≡ refusalOf kind o x y → (r ≡ 0 → ⊥) → _≡_ {A = PadsReply} (record { reply = r; pads = block [] }) (padsReplyOf kind o x y)
+  unfolding padsReplyOf
   pads-refused r e n = let f : ℕ → PadsReply = λ k. padsFor k (padBlock kind o x y) in above-zero (λ k. record { reply = k; pads = block [] }) f (λ k. refl) r n ∙ ap f e
 
-  pub pads-given : (p : PadBlock) → refusalOf kind o x y ≡ 0 → p ≡ padBlock kind o x y → _≡_ {A = PadsReply} (record { reply = 0; pads = p }) (padsOf kind o x y)
-  unfolding padsOf
+  pub pads-given : (p : PadBlock) → refusalOf kind o x y ≡ 0 → p ≡ padBlock kind o x y → _≡_ {A = PadsReply} (record { reply = 0; pads = p }) (padsReplyOf kind o x y)
+  unfolding padsReplyOf
   pads-given p z e = (λ i. record { reply = 0; pads = e i }) ∙ sym (ap (λ (k : ℕ). padsFor k (padBlock kind o x y)) z)
 
   pub box-refused : (r : ℕ) → r ≡ refusalOf kind o x y → (r ≡ 0 → ⊥) → _≡_ {A = BoundsReply} (record { reply = r; bounds = record { low = unused; high = unused } }) (aabbOf kind o x y)

@@ -7,7 +7,7 @@ use mathlib.Core.List.{List, [], _∷_}
 use lib.Dec.{T, leb, leb→le}
 use lib.ListN.{getD, set}
 use Rattle.orientation.specs.declared.RotMirror.{RotMirror}
-use Rattle.symbol.specs.Symbols.{movedOf, unused, boxOf, padBlock, boundsAt, Sound}
+use Rattle.symbol.specs.Symbols.{movedOf, unused, boxOf, padBlock, boundsAt, Positioned}
 use Rattle.symbol.specs.Steps.{offsetOf, mapFirst, Near, Mapping}
 use Rattle.symbol.specs.declared.Point.{Point}
 use Rattle.symbol.specs.declared.PadBlock.{PadBlock}
@@ -52,7 +52,7 @@ near-three p q r u v w (suc zero) = v
 near-three p q r u v w (suc (suc zero)) = w
 near-three p q r u v w (suc (suc (suc k))) = none
 
-pub mapping : (k : ℕ) (o : RotMirror) (x y : ℕ) → k ≤ 2 → Sound o x y → Mapping (storedPads k .points) (storedPads k .count) o x y
+pub mapping : (k : ℕ) (o : RotMirror) (x y : ℕ) → k ≤ 2 → Positioned o x y → Mapping (storedPads k .points) (storedPads k .count) o x y
 mapping k o x y h s =
     of-kinds (λ (k : ℕ). Mapping (storedPads k .points) (storedPads k .count) o x y)
     (record { few = omega arith; sound = s; near = near-three (at 200 200) unused unused (near 200 200 tt tt) none none })

@@ -1,11 +1,12 @@
--- What the functions below the calls ask and return. The code's tables hold each number of a symbol as 200 more, so that none is negative.
+-- What the functions below the calls ask and return: "an array of point structs by value, mapped through orientation and position". The
+-- code's tables hold each number of a symbol as 200 more, so that none is negative.
 use Prim.Native.Nat.{ℕ, zero, suc, _≤_}
 use mathlib.Core.List.{List, [], _∷_}
 use lib.IntN.{ℤ, subℕ}
 use lib.ListN.{getD}
 use Rattle.orientation.specs.Rows.{Row}
 use Rattle.orientation.specs.declared.RotMirror.{RotMirror}
-use Rattle.symbol.specs.Symbols.{Offset, off, unused, Sound}
+use Rattle.symbol.specs.Symbols.{Offset, off, unused, Positioned}
 use Rattle.symbol.specs.declared.Point.{Point}
 
 -- a point of the tables, as an offset
@@ -26,7 +27,7 @@ pub record Near (q : Point) : Type 0 where
 -- what mapping asks: at most three points, one of the eight and a position, and stored points
 pub record Mapping (points : List Point) (count : ℕ) (o : RotMirror) (x y : ℕ) : Type 0 where
   pub few : count ≤ 3
-  pub sound : Sound o x y
+  pub sound : Positioned o x y
   pub near : (k : ℕ) → Near (getD points k unused)
 
 -- what a coordinate of a symbol's point asks: a row of an orientation, a stored point, and a position

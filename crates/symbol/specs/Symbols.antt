@@ -19,9 +19,11 @@ pub record Offset : Type 0 where
   pub dx : ℤ
   pub dy : ℤ
 
+-- the point (x, y) from there
 abbrev pub off : ℤ → ℤ → Offset
 off x y = record { dx = x; dy = y }
 
+-- −n
 abbrev pub minus : ℕ → ℤ
 minus n = negℤ (pos n)
 
@@ -34,15 +36,17 @@ padsAt (suc zero) = off (pos 0) (minus 100) ∷ off (minus 50) (pos 100) ∷ off
 padsAt (suc (suc n)) = off (pos 0) (minus 100) ∷ []
 
 -- "Boxes, low to high corner: Power (−50,−100) to (50,0); Contact (−50,−100) to (50,100); Coil (−50,−100) to (50,150)."
+-- the low corner
 abbrev pub lowAt : ℕ → Offset
 lowAt k = off (minus 50) (minus 100)
 
+-- the high corner
 abbrev pub highAt : ℕ → Offset
 highAt zero = off (pos 50) (pos 0)
 highAt (suc zero) = off (pos 50) (pos 100)
 highAt (suc (suc n)) = off (pos 50) (pos 150)
 
--- "Only contacts turn or mirror in place", of a kind; `sheet`'s isContact says it of a component of a drawing
+-- "Only contacts turn or mirror in place": the kind is that of a contact
 abbrev pub canTurn : ℕ → Bool
 canTurn kind = eqb kind 1
 
@@ -58,8 +62,8 @@ movedOf o x y q = record { x = biased (coordOf x +ℤ applied o q .dx); y = bias
 abbrev pub unused : Point
 unused = record { x = 0; y = 0 }
 
--- "The pads of a symbol come as a block of three points with a count, unused points (0,0)." Here an unused point is a row of zeros, whose coordinates
--- would be (−6,000,−6,000); the block by coordinates, with (0,0), is `component_pads`'s.
+-- "The pads of a symbol come as a block of three points with a count, unused points (0,0)." Here an unused point is a row of zeros, whose
+-- coordinates would be (−6,000,−6,000); the block by coordinates, with (0,0), is `component_pads`'s.
 abbrev pub block : List Point → PadBlock
 block ps = record { points = take 3 (ps ++ (unused ∷ unused ∷ unused ∷ [])); count = length ps }
 
@@ -67,6 +71,7 @@ block ps = record { points = take 3 (ps ++ (unused ∷ unused ∷ unused ∷ [])
 abbrev pub padPoints : ℕ → RotMirror → ℕ → ℕ → List Point
 padPoints kind o x y = map (movedOf o x y) (padsAt kind)
 
+-- the same as a block
 abbrev pub padBlock : ℕ → RotMirror → ℕ → ℕ → PadBlock
 padBlock kind o x y = block (padPoints kind o x y)
 
@@ -86,31 +91,37 @@ abbrev pub knownSymbol : ℕ → RotMirror → Bool
 knownSymbol kind o = leb kind 2 && known o
 
 -- ---- "A box, pads or a turn asked of a bad kind, orientation or position get 4 or 1, in that order, and zeros for every number."
+
+-- 4, 1, or 0 for neither
 unfoldable pub refusalOf : ℕ → RotMirror → ℕ → ℕ → ℕ
 refusalOf kind o x y = cond (knownSymbol kind o) (cond (insideOf x && insideOf y) 0 1) 4
 
+-- the pads, or the refusal and zeros
 abbrev pub padsFor : ℕ → PadBlock → PadsReply
 padsFor zero p = record { reply = 0; pads = p }
 padsFor (suc n) p = record { reply = suc n; pads = block [] }
 
+-- the box, or the refusal and zeros
 abbrev pub boundsFor : ℕ → Bounds → BoundsReply
 boundsFor zero b = record { reply = 0; bounds = b }
 boundsFor (suc n) b = record { reply = suc n; bounds = boxOf unused unused }
 
-unfoldable pub padsOf : ℕ → RotMirror → ℕ → ℕ → PadsReply
-padsOf kind o x y = padsFor (refusalOf kind o x y) (padBlock kind o x y)
+-- the pads asked of a symbol
+unfoldable pub padsReplyOf : ℕ → RotMirror → ℕ → ℕ → PadsReply
+padsReplyOf kind o x y = padsFor (refusalOf kind o x y) (padBlock kind o x y)
 
+-- the box asked of a symbol
 unfoldable pub aabbOf : ℕ → RotMirror → ℕ → ℕ → BoundsReply
 aabbOf kind o x y = boundsFor (refusalOf kind o x y) (boundsAt kind o x y)
 
--- ---- "no two component boxes share a point, edges counted"
+-- "no two component boxes share a point, edges counted": the test whether two do
 abbrev pub touchesOf : Bounds → Bounds → Bool
 touchesOf a b = leb (a .low .x) (b .high .x) && (leb (b .low .x) (a .high .x) && (leb (a .low .y) (b .high .y) && leb (b .low .y) (a .high .y)))
 
 -- ---- what is known of a component in a lawful drawing
 
 -- one of the eight orientations, and a position from -5,800 to 5,800
-pub record Sound (o : RotMirror) (x y : ℕ) : Type 0 where
+pub record Positioned (o : RotMirror) (x y : ℕ) : Type 0 where
   pub turned : T (known o)
   pub left : 200 ≤ x
   pub right : x ≤ 11800
@@ -120,4 +131,4 @@ pub record Sound (o : RotMirror) (x y : ℕ) : Type 0 where
 -- and one of the three kinds
 pub record Placeable (kind : ℕ) (o : RotMirror) (x y : ℕ) : Type 0 where
   pub of-kind : kind ≤ 2
-  pub sound : Sound o x y
+  pub sound : Positioned o x y

@@ -3,7 +3,7 @@ ghost use mathlib.Core.Path.{_≡_};
 ghost use Prim.Native.Nat.{min, max};
 ghost use lib.IntN.{subℕ, _+ℤ_, _*ℤ_};
 ghost use Rattle.edge.specs.Coordinates.{coordOf, biased};
-ghost use Rattle.symbol.specs.Symbols.{Sound, Placeable, knownSymbol, canTurn, movedOf, padBlock, boxOf, boundsAt, refusalOf, padsOf, aabbOf, touchesOf};
+ghost use Rattle.symbol.specs.Symbols.{Positioned, Placeable, knownSymbol, canTurn, movedOf, padBlock, boxOf, boundsAt, refusalOf, padsReplyOf, aabbOf, touchesOf};
 ghost use Rattle.symbol.specs.Steps.{offsetOf, mapFirst, Near, Along, Mapping};
 use orientation::RotMirror;
 
@@ -101,7 +101,7 @@ fn along(a: i8, b: i8, dx: u16, dy: u16, p: u16) -> u16
 
 // A point of a symbol, each number given as 200 more, turned by o and moved to the position (x, y).
 fn moved(o: RotMirror, q: Point, x: u16, y: u16) -> Point
-    requires { ⌜ Sound o x y × Near q ⌝ }
+    requires { ⌜ Positioned o x y × Near q ⌝ }
     ensures { λ r. ⌜ r ≡ movedOf o x y (offsetOf q) ⌝ }
 {
     let rx = along(o.0, o.1, q.x, q.y, x);
@@ -163,7 +163,7 @@ pub fn pads_at(kind: u8, o: RotMirror, x: u16, y: u16) -> PadBlock
 
 // The pads of a component: 0 and the block of points, or the refusal and zeros.
 pub fn pads(kind: u8, o: RotMirror, x: u16, y: u16) -> PadsReply
-    ensures { λ r. ⌜ r ≡ padsOf kind o x y ⌝ }
+    ensures { λ r. ⌜ r ≡ padsReplyOf kind o x y ⌝ }
 {
     let reply = refusal(kind, o, x, y);
     if reply != 0 {

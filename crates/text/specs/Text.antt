@@ -1,4 +1,4 @@
--- Bytes put into a buffer, and numbers in decimal.
+-- Bytes put into a buffer, of which "bytes behind it stay", and numbers in decimal.
 use mathlib.Core.Path.{_≡_}
 use mathlib.Core.Bool.{cond}
 use mathlib.Core.List.{List, [], _∷_, _++_}
@@ -8,7 +8,8 @@ use lib.IntN.{ℤ, pos, negsuc}
 use lib.ListN.{length}
 use lib.Seq.{sets}
 
--- `new` is `old` with the bytes `bs` from index `at` on, what falls behind its end left out; `next` is the index behind them, whether or not they fit
+-- `new` is `old` with the bytes `bs` from index `at` on, what falls behind its end left out; `next` is the index behind them, whether or
+-- not they fit
 pub record Put (old : List ℕ) (at : ℕ) (bs new : List ℕ) (next : ℕ) : Type 0 where
   pub bytes : new ≡ sets old at bs
   pub behind : next ≡ at + length bs

@@ -1,10 +1,11 @@
--- A table with room or without: what `Grows` and `Cut` say by cases, how cuts follow one another, and that the contracts leave one answer.
+-- A table with room or without: what `Grows` and `Splits` say by cases, how cuts follow one another, and that the contracts leave one answer.
 use Prim.Native.Nat.{_≤_, _<_}
 use native.Mathlib.Omega.{arith}
 use mathlib.Core.Path.{_≡_, sym, ap, _∙_, subst}
 use mathlib.Core.List.{List, [], _∷_, _++_}
 use mathlib.Core.Bool.{Bool, true, false, cond}
 use borrow.Author.Tests.{lt-ltb, le-ltb, ltb-true}
+use lib.Dec.{ltb}
 use lib.ListN.{length}
 use Rattle.symbol.specs.declared.Point.{Point}
 use Rattle.lists.specs.Tables.{pad}
@@ -15,7 +16,11 @@ use Rattle.sheet.specs.Split.{splitAt, splitAll}
 use Rattle.sheet.specs.Drawings.{zeroWire, wireTable, wireRows}
 use Rattle.sheet.proofs.Split.{split-no-shorter, split-all-append}
 use Rattle.wires.specs.declared.Grown.{Grown}
-use Rattle.wires.specs.Tables.{Tabled, Grows, Cut, grown}
+use Rattle.wires.specs.Tables.{Tabled, Grows, Splits}
+
+-- the one answer for a list
+abbrev pub grown : List Wire → Grown
+grown ws = record { full = ltb 512 (length ws); table = wireTable (cond (ltb 512 (length ws)) [] ws) }
 
 -- ---- Grows
 
@@ -54,22 +59,22 @@ grows-count h = holds-count (h .holds)
 
 -- ---- Cut
 
-pub cut-none : (g : Grown) → g .table .count ≤ 512 → Cut [] g g
+pub cut-none : (g : Grown) → g .table .count ≤ 512 → Splits [] g g
 unfolding splitAll
 cut-none g h = record { room = h; so = λ ws k. k }
 
-pub cut-more : {ps qs : List Point} {g h k : Grown} → Cut ps g h → Cut qs h k → Cut (ps ++ qs) g k
+pub cut-more : {ps qs : List Point} {g h k : Grown} → Splits ps g h → Splits qs h k → Splits (ps ++ qs) g k
 cut-more {ps} {qs} a b = record { room = b .room; so = λ ws o. grows-as (sym (split-all-append ps qs ws)) (b .so (splitAll ps ws) (a .so ws o)) }
 
-pub cut-as : {ps qs : List Point} {g k : Grown} → ps ≡ qs → Cut ps g k → Cut qs g k
-cut-as {g = g} {k} e c = subst (λ (l : List Point). Cut l g k) e c
+pub cut-as : {ps qs : List Point} {g k : Grown} → ps ≡ qs → Splits ps g k → Splits qs g k
+cut-as {g = g} {k} e c = subst (λ (l : List Point). Splits l g k) e c
 
 -- one point, of a table with no room and of one with
-pub cut-full : (p : Point) (g : Grown) → g .full ≡ true → g .table .count ≤ 512 → Cut (p ∷ []) g g
+pub cut-full : (p : Point) (g : Grown) → g .full ≡ true → g .table .count ≤ 512 → Splits (p ∷ []) g g
 unfolding splitAll
 cut-full p g e h = record { room = h; so = λ ws o. still-full (splitAt p ws) o e (split-no-shorter p ws) }
 
-pub cut-room : (p : Point) (g : Grown) {r : Grown} → g .full ≡ false → Grows (splitAt p (wireRows (g .table))) r → Cut (p ∷ []) g r
+pub cut-room : (p : Point) (g : Grown) {r : Grown} → g .full ≡ false → Grows (splitAt p (wireRows (g .table))) r → Splits (p ∷ []) g r
 unfolding splitAll
 cut-room p g e h = record { room = grows-count h; so = λ ws o. grows-as (ap (splitAt p) (holds-list (when-room o e))) h }
 

@@ -1,4 +1,4 @@
--- Tables of wires and of points, and what it means that one holds a list or has no room for it.
+-- Tables of wires and of points, and what it means that one holds a list or has no room for it ("would hold over 512 wires").
 use Prim.Native.Nat.{_≤_}
 use mathlib.Core.Path.{_≡_}
 use mathlib.Core.List.{List, []}
@@ -10,7 +10,7 @@ use Rattle.symbol.specs.declared.Point.{Point}
 use Rattle.sheet.specs.declared.Wire.{Wire}
 use Rattle.sheet.specs.declared.Wires.{Wires}
 use Rattle.sheet.specs.Split.{splitAll}
-use Rattle.sheet.specs.Drawings.{zeroWire, wireTable}
+use Rattle.sheet.specs.Drawings.{zeroWire}
 use Rattle.wires.specs.declared.Points.{Points}
 use Rattle.wires.specs.declared.Grown.{Grown}
 
@@ -28,10 +28,6 @@ pub record Grows (ws : List Wire) (g : Grown) : Type 0 where
   pub holds : Tabled (cond (g .full) [] ws) (g .table)
 
 -- r is g split at each of the points: whatever list g stands for
-pub record Cut (ps : List Point) (g r : Grown) : Type 0 where
+pub record Splits (ps : List Point) (g r : Grown) : Type 0 where
   pub room : r .table .count ≤ 512
   pub so : (ws : List Wire) → Grows ws g → Grows (splitAll ps ws) r
-
--- the one answer for a list
-abbrev pub grown : List Wire → Grown
-grown ws = record { full = ltb 512 (length ws); table = wireTable (cond (ltb 512 (length ws)) [] ws) }

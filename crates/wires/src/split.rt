@@ -5,7 +5,7 @@ ghost use Prim.Native.Nat.{_≤_};
 ghost use lib.ListN.{take};
 ghost use Rattle.sheet.specs.Split;
 ghost use Rattle.sheet.specs.Drawings.{wireRows};
-ghost use Rattle.wires.specs.Tables.{Tabled, Grows, Cut};
+ghost use Rattle.wires.specs.Tables.{Tabled, Grows, Splits};
 use crate::Grown;
 use crate::lines::along;
 use crate::lines::inside;
@@ -79,7 +79,7 @@ pub fn split_at(ws: Wires, p: Point) -> Grown
 // The same of what may have no room already.
 pub fn split_more(g: Grown, p: Point) -> Grown
     requires { ⌜ g .table .count ≤ 512 ⌝ }
-    ensures { λ r. ⌜ Cut (p ∷ []) g r ⌝ }
+    ensures { λ r. ⌜ Splits (p ∷ []) g r ⌝ }
 {
     if g.full {
         return g;
@@ -91,7 +91,7 @@ pub fn split_more(g: Grown, p: Point) -> Grown
 // Split at each of up to three points in turn, as the pads of a component do.
 pub fn split_pads(g: Grown, pads: [Point; 3], count: usize) -> Grown
     requires { ⌜ (g .table .count ≤ 512) × (count ≤ 3) ⌝ }
-    ensures { λ r. ⌜ Cut (take count pads) g r ⌝ }
+    ensures { λ r. ⌜ Splits (take count pads) g r ⌝ }
 {
     let mut out = g;
     let mut i = 0;

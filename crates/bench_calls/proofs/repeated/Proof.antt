@@ -5,14 +5,14 @@ use mathlib.Core.Path.{_≡_, _∙_}
 use mir.Syntax.{w32}
 use mir.Val.{toZ}
 use Rattle.asked.proofs.Handed.{handed-three}
-use Rattle.bench_calls.specs.Timed.{answerOf, again}
+use Rattle.bench_calls.specs.Timed.{timedAnswer, again}
 use Rattle.bench_calls.proofs.Timing.{again-none, again-next, again-end}
 use borrow.Author.Needs.{needs}
 use Rattle.bench_calls.proofs.repeated.Statement.{statement}
 use Rattle.bench_calls.proofs.repeated.Tie as tie
 
 abbrev Inv-loop : tie.InvT-loop
-Inv-loop call d what x y z times last₀ k₀ last k = (k ≤ times) × (last ≡ again k (answerOf call what (toZ w32 x) (toZ w32 y) (toZ w32 z) d) 0)
+Inv-loop call d what x y z times last₀ k₀ last k = (k ≤ times) × (last ≡ again k (timedAnswer call what (toZ w32 x) (toZ w32 y) (toZ w32 z) d) 0)
 
 abbrev μ-loop : tie.MeasureT-loop
 μ-loop call d what x y z times last₀ k₀ last k = times - k
@@ -35,7 +35,7 @@ loop-again c = let l = c .before .before .loop in (omega arith, again-next _ (l 
 returns : tie.Need-returns Inv-loop μ-loop
 returns c = let s = c .before .before in
     again-end _ (c .before .loop .k) (s .args .times) (omega arith) (c .before .loop .inv .1)
-    ∙ handed-three (λ x y z. again (s .args .times) (answerOf (s .args .call) (s .args .what) x y z (s .args .d)) 0) _ _ _ (s .fits .x) (s .fits .y) (s .fits .z)
+    ∙ handed-three (λ x y z. again (s .args .times) (timedAnswer (s .args .call) (s .args .what) x y z (s .args .d)) 0) _ _ _ (s .fits .x) (s .fits .y) (s .fits .z)
 
 pub repeated-spec : {M : Type 1} → statement M
 repeated-spec =

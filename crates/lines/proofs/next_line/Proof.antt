@@ -4,14 +4,14 @@ use Prim.Native.Nat.{_≤_, _-_}
 use native.Mathlib.Omega.{arith}
 use lib.ListN.{length, take, drop}
 use borrow.Author.Needs.{needs}
-use Rattle.lines.specs.Chunks.{feed}
+use Rattle.lines.specs.Chunks.{bring}
 use Rattle.lines.proofs.Holding.{feed-newline, feed-byte, feed-end}
 use Rattle.lines.proofs.next_line.Statement.{statement}
 use Rattle.lines.proofs.next_line.Tie as tie
 
 abbrev Inv-loop : tie.InvT-loop
 Inv-loop chunk at held₀ count i₀ n₀ held i n =
-    (feed (take n held) (drop i chunk) ≡ feed (take count held₀) (drop at chunk)) × (i ≤ length chunk) × (n ≤ 81) × (length held ≡ length held₀) × (at ≤ i)
+    (bring (take n held) (drop i chunk) ≡ bring (take count held₀) (drop at chunk)) × (i ≤ length chunk) × (n ≤ 81) × (length held ≡ length held₀) × (at ≤ i)
 
 abbrev μ-loop : tie.MeasureT-loop
 μ-loop chunk at held₀ count i₀ n₀ held i n = length chunk - i

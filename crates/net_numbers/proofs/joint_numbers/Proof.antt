@@ -7,7 +7,7 @@ use Rattle.lists.proofs.Tables.{long, row-in}
 use Rattle.sheet.specs.Drawings.{jointRows}
 use Rattle.symbol.specs.Symbols.{unused}
 use Rattle.wires.specs.Tables.{pointRows}
-use Rattle.net_numbers.specs.Netted.{numberIn}
+use Rattle.net_numbers.specs.Netted.{numberOfJoint}
 use Rattle.lists.proofs.Finding.{Filled, filled-start, filled-next, filled-end}
 use Rattle.net_numbers.proofs.Keys.{Ready, ready-ascend, ready-number}
 use Rattle.net_numbers.proofs.Filling.{pads-in}
@@ -16,7 +16,7 @@ use Rattle.net_numbers.proofs.joint_numbers.Tie as tie
 
 abbrev Inv-loop : tie.InvT-loop
 Inv-loop js ps keys n rows₀ i₀ rows i =
-    (i ≤ n) × (length (ps .rows) ≡ 384) × (length rows ≡ 384) × Ready (pointRows ps) js keys × Filled (λ k. k) (numberIn (jointRows js)) (ps .rows) i rows
+    (i ≤ n) × (length (ps .rows) ≡ 384) × (length rows ≡ 384) × Ready (pointRows ps) js keys × Filled (λ k. k) (numberOfJoint (jointRows js)) (ps .rows) i rows
 
 abbrev μ-loop : tie.MeasureT-loop
 μ-loop js ps keys n rows₀ i₀ rows i = n - i

@@ -6,7 +6,7 @@ use lib.ListN.{length, length-set}
 use Rattle.lists.proofs.Tables.{long, row-in}
 use Rattle.sheet.specs.Lines.{ends}
 use Rattle.sheet.specs.Drawings.{wireRows, jointRows, zeroWire}
-use Rattle.nets.specs.Tables.{endsOf}
+use Rattle.nets.specs.Tables.{linkEnds}
 use Rattle.lists.proofs.Finding.{Filled, filled-start, filled-next, filled-end}
 use Rattle.net_numbers.proofs.Numbered.{low-end, high-end}
 use Rattle.net_numbers.proofs.Keys.{Ready, ready-ascend, ready-number}
@@ -16,7 +16,7 @@ use Rattle.net_numbers.proofs.links.Tie as tie
 
 abbrev Inv-loop : tie.InvT-loop
 Inv-loop js ws keys n rows₀ i₀ rows i =
-    (i ≤ n) × (length (ws .rows) ≡ 512) × (length rows ≡ 512) × Ready (ends (wireRows ws)) js keys × Filled endsOf (numbersOf (jointRows js)) (ws .rows) i rows
+    (i ≤ n) × (length (ws .rows) ≡ 512) × (length rows ≡ 512) × Ready (ends (wireRows ws)) js keys × Filled linkEnds (numbersOf (jointRows js)) (ws .rows) i rows
 
 abbrev μ-loop : tie.MeasureT-loop
 μ-loop js ws keys n rows₀ i₀ rows i = n - i

@@ -1,7 +1,7 @@
 -- `netlist::loose` meets its contract: the drawing is checked, and then its loose points are counted.
 use mathlib.Core.Path.{refl, ap}
 use Rattle.sheet.proofs.Owned.{owned}
-use Rattle.netlist.specs.Answers.{counted, looseAnswer}
+use Rattle.netlist.specs.Answers.{looseCount, looseAnswer}
 use Rattle.netlist.proofs.Checked.{is-lawful, passes, fails}
 use borrow.Author.Needs.{needs}
 use Rattle.netlist.proofs.loose.Statement.{statement}
@@ -19,7 +19,7 @@ loose-on-requires c κs = is-lawful (c .before .before .before .args .d) (c .bef
 
 returns-2 : tie.Need-returns-2
 unfolding looseAnswer
-returns-2 c = rw (passes (c .before .before .before .before .args .d) (c .before .before .before .check .ensures) (c .before .if1 .left)) (ap (counted 0) (c .loose-on .ensures))
+returns-2 c = rw (passes (c .before .before .before .before .args .d) (c .before .before .before .check .ensures) (c .before .if1 .left)) (ap (looseCount 0) (c .loose-on .ensures))
 
 pub loose-spec : {M : Type 1} → statement M
 loose-spec = tie.close (tie.spec check-requires returns loose-on-requires returns-2)

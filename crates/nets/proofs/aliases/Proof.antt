@@ -5,8 +5,8 @@ use Prim.Native.Nat.{ℕ, _≤_, _<_, _-_}
 use native.Mathlib.Omega.{arith}
 use lib.ListN.{getD, take}
 use Rattle.lists.proofs.Tables.{long}
-use Rattle.nets.specs.Numbers.{startOf}
-use Rattle.nets.specs.Tables.{JointNumber, Rooted, endsOf, linkRows, padRows, tabulate}
+use Rattle.nets.specs.Numbers.{firstNet}
+use Rattle.nets.specs.Tables.{JointNumber, Rooted, linkEnds, linkRows, padRows, tabulate}
 use Rattle.nets.proofs.Chains.{netWith}
 use Rattle.nets.proofs.Walks.{wire-joints, wire-next}
 use Rattle.nets.proofs.Rooted.{rooted-start, rooted-next}
@@ -14,7 +14,7 @@ use Rattle.nets.proofs.aliases.Statement.{statement}
 use Rattle.nets.proofs.aliases.Tie as tie
 
 abbrev Inv-loop : tie.InvT-loop
-Inv-loop wires alias₀ k₀ alias k = (k ≤ wires .count) × ((ps : List ℕ) → alias₀ ≡ tabulate (startOf ps) 1409 → Rooted (netWith ps (map endsOf (take k (wires .rows)))) alias)
+Inv-loop wires alias₀ k₀ alias k = (k ≤ wires .count) × ((ps : List ℕ) → alias₀ ≡ tabulate (firstNet ps) 1409 → Rooted (netWith ps (map linkEnds (take k (wires .rows)))) alias)
 
 abbrev μ-loop : tie.MeasureT-loop
 μ-loop wires alias₀ k₀ alias k = wires .count - k

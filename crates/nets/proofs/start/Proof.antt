@@ -4,14 +4,14 @@ use Prim.Native.Nat.{_≤_, _-_}
 use native.Mathlib.Omega.{arith}
 use borrow.Author.Needs.{needs}
 use lib.ListN.{getD, set, take}
-use Rattle.nets.specs.Numbers.{startOf}
+use Rattle.nets.specs.Numbers.{firstNet}
 use Rattle.nets.specs.Tables.{JointNumber, padRows, tabulate}
 use Rattle.nets.proofs.Walks.{pad-joint, pad-next, start-none, start-next}
 use Rattle.nets.proofs.start.Statement.{statement}
 use Rattle.nets.proofs.start.Tie as tie
 
 abbrev Inv-loop : tie.InvT-loop
-Inv-loop powers alias₀ i₀ alias i = (i ≤ powers .count) × (alias ≡ tabulate (startOf (take i (powers .rows))) 1409)
+Inv-loop powers alias₀ i₀ alias i = (i ≤ powers .count) × (alias ≡ tabulate (firstNet (take i (powers .rows))) 1409)
 
 abbrev μ-loop : tie.MeasureT-loop
 μ-loop powers alias₀ i₀ alias i = powers .count - i
@@ -54,7 +54,7 @@ loop-again c =
     let p = getD (a .args .t1 .rows) (l .i) 0 in (
       omega arith,
       ap (λ t. set t p 0) (l .inv .1) ∙ start-next (take (l .i) (a .args .t1 .rows)) p (at-joint c .high)
-          ∙ ap (λ ps. tabulate (startOf ps) 1409) (sym (pad-next (a .args .t1) (search needs) (a .pre) (l .i) (c .before .loop-test .taken))),
+          ∙ ap (λ ps. tabulate (firstNet ps) 1409) (sym (pad-next (a .args .t1) (search needs) (a .pre) (l .i) (c .before .loop-test .taken))),
     )
 
 returns : tie.Need-returns Inv-loop μ-loop
@@ -63,7 +63,7 @@ returns c =
     let l = c .before .loop in
     let powers = c .before .before .before .args .t1 in
     let e : l .i ≡ powers .count = omega arith in
-    l .inv .1 ∙ ap (λ i. tabulate (startOf (take i (powers .rows))) 1409) e
+    l .inv .1 ∙ ap (λ i. tabulate (firstNet (take i (powers .rows))) 1409) e
 
 pub start-spec : {M : Type 1} → statement M
 start-spec =

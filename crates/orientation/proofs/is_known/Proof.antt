@@ -2,13 +2,13 @@
 use borrow.Author.Needs.{needs}
 use mathlib.Core.Path.{_≡_, sym, ap, _∙_}
 use lib.Dec.{eqb}
-use Rattle.orientation.specs.Orientations.{Numbered, told}
+use Rattle.orientation.specs.Orientations.{NumberReply, told}
 use Rattle.orientation.specs.declared.Number.{Number}
 use Rattle.orientation.proofs.is_known.Statement.{statement}
 use Rattle.orientation.proofs.is_known.Tie as tie
 
-found : {m n : Number} {r : Numbered} → m ≡ n → told m ≡ r → eqb (told n .reply) 0 ≡ eqb (r .reply) 0
-found e f = ap (λ (t : Numbered). eqb (t .reply) 0) (sym (ap told e) ∙ f)
+found : {m n : Number} {r : NumberReply} → m ≡ n → told m ≡ r → eqb (told n .reply) 0 ≡ eqb (r .reply) 0
+found e f = ap (λ (t : NumberReply). eqb (t .reply) 0) (sym (ap told e) ∙ f)
 
 number-of-requires : tie.Need-number-of-requires
 number-of-requires c κs = search needs

@@ -4,13 +4,13 @@ use mathlib.Core.Logic.{⊎-elim}
 use mathlib.Core.Path.{_≡_, sym, _∙_}
 use lib.ListN.{length}
 use Rattle.lists.proofs.Tables.{long}
-use Rattle.add_wire.proofs.Running.{Runs, run-start, run-yes, run-no, run-end}
+use Rattle.add_wire.proofs.Running.{RunSoFar, run-start, run-yes, run-no, run-end}
 use native.Mathlib.Omega.{arith}
 use Rattle.add_wire.proofs.run.run_of.Statement.{statement}
 use Rattle.add_wire.proofs.run.run_of.Tie as tie
 
 abbrev Inv-loop : tie.InvT-loop
-Inv-loop n ws m r₀ i₀ r i = (i ≤ m) × (length (ws .rows) ≡ 512) × Runs n (ws .rows) i r
+Inv-loop n ws m r₀ i₀ r i = (i ≤ m) × (length (ws .rows) ≡ 512) × RunSoFar n (ws .rows) i r
 
 abbrev μ-loop : tie.MeasureT-loop
 μ-loop n ws m r₀ i₀ r i = m - i

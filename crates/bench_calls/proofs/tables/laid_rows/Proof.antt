@@ -3,7 +3,7 @@ use mathlib.Core.List.{List}
 use mathlib.Core.Path.{ap, _∙_}
 use Rattle.symbol.specs.declared.Point.{Point}
 use Rattle.sheet.specs.Drawings.{wireRows}
-use Rattle.sheet.specs.Run.{addWire}
+use Rattle.sheet.specs.Run.{layWire}
 use Rattle.bench_calls.specs.Tables.{grownRows}
 use Rattle.bench_calls.proofs.Rowing.{grown-rows}
 use borrow.Author.Needs.{needs}
@@ -21,7 +21,7 @@ word-requires c κs = search needs
 
 returns : tie.Need-returns
 returns c = let s = c .before .before .before .before in
-    c .word .ensures ∙ grown-rows (c .before .before .add-wire .ensures) ∙ ap (λ (ps : List Point). grownRows (addWire (s .args .n) (wireRows (s .args .ws)) ps)) (c .before .before .before .all-pads .ensures .points-are)
+    c .word .ensures ∙ grown-rows (c .before .before .add-wire .ensures) ∙ ap (λ (ps : List Point). grownRows (layWire (s .args .n) (wireRows (s .args .ws)) ps)) (c .before .before .before .all-pads .ensures .points-are)
 
 pub laid-rows-spec : {M : Type 1} → statement M
 laid-rows-spec = tie.close (tie.spec all-pads-requires add-wire-requires word-requires returns)

@@ -3,7 +3,7 @@ use mathlib.Core.Path.{_∙_}
 use native.Mathlib.Omega.{arith}
 use Rattle.script.specs.Grammar.{byte}
 use Rattle.script.specs.Reading.{missing}
-use Rattle.check_script.specs.Reading.{letterOf, directionOf}
+use Rattle.check_script.specs.Reading.{verticalOf, directionOf}
 use Rattle.check_script.proofs.Letters.{on-byte, off-byte, within}
 use borrow.Author.Needs.{needs}
 use Rattle.check_script.proofs.fields.direction_at.Statement.{statement}
@@ -22,11 +22,11 @@ letter-at-requires c κs = search needs
 
 returns : tie.Need-returns
 unfolding directionOf
-returns c = let a = c .before .before .before .before .args in c .letter-at .ensures ∙ on-byte (byte " ") letterOf missing (a .line .now) (a .at) (c .before .before .is-at .ensures) (c .before .if1 .taken)
+returns c = let a = c .before .before .before .before .args in c .letter-at .ensures ∙ on-byte (byte " ") verticalOf missing (a .line .now) (a .at) (c .before .before .is-at .ensures) (c .before .if1 .taken)
 
 returns-2 : tie.Need-returns-2
 unfolding directionOf
-returns-2 c = let a = c .before .before .before .args in off-byte (byte " ") letterOf missing (a .line .now) (a .at) (c .before .is-at .ensures) (c .if1 .left)
+returns-2 c = let a = c .before .before .before .args in off-byte (byte " ") verticalOf missing (a .line .now) (a .at) (c .before .is-at .ensures) (c .if1 .left)
 
 pub direction-at-spec : {M : Type 1} → statement M
 direction-at-spec =

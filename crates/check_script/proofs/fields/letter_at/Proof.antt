@@ -3,8 +3,8 @@ use mathlib.Core.Path.{_∙_}
 use mathlib.Core.Bool.{true, false}
 use native.Mathlib.Omega.{arith}
 use Rattle.script.specs.Grammar.{byte}
-use Rattle.script.specs.Reading.{found, missing, behind}
-use Rattle.check_script.specs.Reading.{letterOf}
+use Rattle.script.specs.Reading.{found, missing, afterByte}
+use Rattle.check_script.specs.Reading.{verticalOf}
 use Rattle.check_script.proofs.Letters.{on-byte, off-byte, within}
 use borrow.Author.Needs.{needs}
 use Rattle.check_script.proofs.fields.letter_at.Statement.{statement}
@@ -19,7 +19,7 @@ add-t4 c =
     let i = within (byte "h") (a .line .now) (a .at) (c .before .is-at .ensures) (c .if1 .taken) in omega arith
 
 returns : tie.Need-returns
-unfolding letterOf
+unfolding verticalOf
 returns c = let a = c .before .before .before .args in on-byte (byte "h") (found false) _ (a .line .now) (a .at) (c .before .is-at .ensures) (c .if1 .taken)
 
 is-at-requires-2 : tie.Need-is-at-requires-2
@@ -31,14 +31,14 @@ add-t6 c =
     let i = within (byte "v") (a .line .now) (a .at) (c .before .is-at2 .ensures) (c .if2 .taken) in omega arith
 
 returns-2 : tie.Need-returns-2
-unfolding letterOf
+unfolding verticalOf
 returns-2 c =
     let a = c .before .before .before .before .before .args in
     on-byte (byte "v") (found true) missing (a .line .now) (a .at) (c .before .is-at2 .ensures) (c .if2 .taken)
     ∙ off-byte (byte "h") (found false) _ (a .line .now) (a .at) (c .before .before .before .is-at .ensures) (c .before .before .if1 .left)
 
 returns-3 : tie.Need-returns-3
-unfolding letterOf
+unfolding verticalOf
 returns-3 c =
     let a = c .before .before .before .before .before .args in
     off-byte (byte "v") (found true) missing (a .line .now) (a .at) (c .before .is-at2 .ensures) (c .if2 .left)

@@ -3,7 +3,7 @@ use borrow.Author.Needs.{needs}
 use mathlib.Core.Path.{_≡_, sym, ap, _∙_}
 use lib.Ieee.{Float}
 use Rattle.orientation.specs.declared.RotMirror.{RotMirror}
-use Rattle.draw.specs.Transforms.{movedOf, transformOf}
+use Rattle.draw.specs.Transforms.{movedPoint, transformOf}
 use Rattle.draw.specs.declared.Vector2.{Vector2}
 use Rattle.draw.specs.declared.Draw.{Draw}
 use Rattle.draw.specs.declared.Draw.the-variants.{Line, Circle}
@@ -11,10 +11,10 @@ use Rattle.draw.proofs.Draw.transform.Statement.{statement}
 use Rattle.draw.proofs.Draw.transform.Tie as tie
 
 module _ (o : RotMirror) (t : Vector2) {s : Draw} where
-  line-is : {p q p′ q′ : Vector2} {width : Float} → s ≡ Line p q width → p′ ≡ movedOf o t p → q′ ≡ movedOf o t q → Line p′ q′ width ≡ transformOf o t s
+  line-is : {p q p′ q′ : Vector2} {width : Float} → s ≡ Line p q width → p′ ≡ movedPoint o t p → q′ ≡ movedPoint o t q → Line p′ q′ width ≡ transformOf o t s
   line-is {width = width} e f g = (λ i. Line (f i) (g i) width) ∙ sym (ap (transformOf o t) e)
 
-  circle-is : {p p′ : Vector2} {radius width : Float} → s ≡ Circle p radius width → p′ ≡ movedOf o t p → Circle p′ radius width ≡ transformOf o t s
+  circle-is : {p p′ : Vector2} {radius width : Float} → s ≡ Circle p radius width → p′ ≡ movedPoint o t p → Circle p′ radius width ≡ transformOf o t s
   circle-is {radius = radius} {width = width} e f = (λ i. Circle (f i) radius width) ∙ sym (ap (transformOf o t) e)
 
 enum-known-self : tie.Need-enum-known-self

@@ -1,5 +1,5 @@
 -- All ends and pads as numbers, chained, and each wire's high end looked up among them.
-use Rattle.merge.specs.Codes.{marksOf}
+use Rattle.merge.specs.Codes.{marksWithKind}
 use borrow.Author.Needs.{needs}
 use Rattle.merge.proofs.held.held_ends.Statement.{statement}
 use Rattle.merge.proofs.held.held_ends.Tie as tie
@@ -17,7 +17,7 @@ flags-of-requires : tie.Need-flags-of-requires
 flags-of-requires c κs = search needs
 
 returns : tie.Need-returns
-unfolding marksOf
+unfolding marksWithKind
 returns c = c .flags-of .ensures _ (c .before .before .before .before .before .before .before .before .pad-codes .ensures .0 _ (c .before .before .before .before .before .before .before .before .before .end-codes .ensures .0))
 
 pub held-ends-spec : {M : Type 1} → statement M

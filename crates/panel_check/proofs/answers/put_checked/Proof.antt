@@ -1,7 +1,7 @@
 -- `put_checked` meets its contract: six runs of bytes, one behind the other.
 use native.Mathlib.Omega.{arith}
 use Rattle.text.proofs.Puts.{put-then}
-use Rattle.panel_check.specs.Answers.{answerOf}
+use Rattle.panel_check.specs.Appended.{verdictLine}
 use Rattle.text.proofs.Decimals.{length-number}
 use borrow.Author.Needs.{needs}
 use Rattle.panel_check.proofs.answers.put_checked.Statement.{statement}
@@ -29,7 +29,7 @@ same-length : tie.Need-same-length
 same-length c = search needs
 
 returns : tie.Need-returns
-unfolding answerOf
+unfolding verdictLine
 returns c = (
   put-then (c .before .before .before .before .before .before .before .before .before .before .before .before .before .before .before .before .before .before .before .before .before .before .put-decimal .ensures) (put-then (c .before .before .before .before .before .before .before .before .before .before .before .before .before .before .before .before .before .before .put-byte .ensures) (put-then (c .before .before .before .before .before .before .before .before .before .before .before .before .before .before .put-decimal2 .ensures) (put-then (c .before .before .before .before .before .before .before .before .before .before .put-byte2 .ensures) (put-then (c .before .before .before .before .before .before .put-decimal3 .ensures) (c .before .before .put-byte3 .ensures))))),
   omega (arith, c .before .before .before .before .before .before .before .before .before .before .before .before .before .before .before .before .before .before .before .before .before .before .put-decimal .ensures .behind, c .before .before .before .before .before .before .before .before .before .before .before .before .before .before .before .before .before .before .put-byte .ensures .behind, c .before .before .before .before .before .before .before .before .before .before .before .before .before .before .put-decimal2 .ensures .behind, c .before .before .before .before .before .before .before .before .before .before .put-byte2 .ensures .behind, c .before .before .before .before .before .before .put-decimal3 .ensures .behind, c .before .before .put-byte3 .ensures .behind, length-number (c .before .before .before .before .before .before .before .before .before .before .before .before .before .before .before .before .before .before .before .before .before .before .before .before .before .args .rule) (omega (arith, c .before .before .before .before .before .before .before .before .before .before .before .before .before .before .before .before .before .before .before .before .before .before .before .before .before .fits .rule)), length-number (c .before .before .before .before .before .before .before .before .before .before .before .before .before .before .before .before .before .before .before .before .before .before .before .before .before .args .first) (omega (arith, c .before .before .before .before .before .before .before .before .before .before .before .before .before .before .before .before .before .before .before .before .before .before .before .before .before .fits .first)), length-number (c .before .before .before .before .before .before .before .before .before .before .before .before .before .before .before .before .before .before .before .before .before .before .before .before .before .args .second) (omega (arith, c .before .before .before .before .before .before .before .before .before .before .before .before .before .before .before .before .before .before .before .before .before .before .before .before .before .fits .second))),

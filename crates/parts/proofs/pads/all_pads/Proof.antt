@@ -7,14 +7,14 @@ use Rattle.lists.proofs.Tables.{long}
 use Rattle.lists.proofs.Passes.{Pass, pass-start, pass-next, pass-end}
 use Rattle.symbol.specs.Symbols.{unused}
 use Rattle.sheet.specs.Parts.{pads}
-use Rattle.parts.specs.Tables.{Listed}
+use Rattle.parts.specs.Tables.{TabledPoints}
 use Rattle.parts.proofs.Fitting.{row-fits}
 use Rattle.parts.proofs.Listing.{lists-none, lists-block}
 use Rattle.parts.proofs.pads.all_pads.Statement.{statement}
 use Rattle.parts.proofs.pads.all_pads.Tie as tie
 
 abbrev Inv-loop : tie.InvT-loop
-Inv-loop cs out₀ n i₀ out i = (i ≤ n) × (length (cs .rows) ≡ 128) × (out .count ≤ 3 * i) × Pass Listed pads (cs .rows) i out
+Inv-loop cs out₀ n i₀ out i = (i ≤ n) × (length (cs .rows) ≡ 128) × (out .count ≤ 3 * i) × Pass TabledPoints pads (cs .rows) i out
 
 abbrev μ-loop : tie.MeasureT-loop
 μ-loop cs out₀ n i₀ out i = n - i

@@ -6,14 +6,14 @@ use lib.ListN.{length}
 use borrow.Author.Needs.{needs}
 use Rattle.lists.proofs.Tables.{long}
 use Rattle.lists.proofs.Passes.{Pass, pass-start, pass-next, pass-end, gather-each}
-use Rattle.wires.specs.Tables.{Cut}
+use Rattle.wires.specs.Tables.{Splits}
 use Rattle.wires.proofs.Growing.{cut-none, cut-more, cut-as}
 use native.Mathlib.Omega.{arith}
 use Rattle.wires.proofs.split.split_pads.Statement.{statement}
 use Rattle.wires.proofs.split.split_pads.Tie as tie
 
 abbrev Inv-loop : tie.InvT-loop
-Inv-loop count pads out₀ i₀ out i = (i ≤ count) × (length pads ≡ 3) × Pass (λ ps r. Cut ps out₀ r) (λ p. p ∷ []) pads i out
+Inv-loop count pads out₀ i₀ out i = (i ≤ count) × (length pads ≡ 3) × Pass (λ ps r. Splits ps out₀ r) (λ p. p ∷ []) pads i out
 
 abbrev μ-loop : tie.MeasureT-loop
 μ-loop count pads out₀ i₀ out i = count - i
