@@ -2,11 +2,8 @@
 ghost use mathlib.Core.Path.{_≡_};
 ghost use Prim.Native.Nat.{_%_};
 ghost use lib.ListN.{getD, replicate};
-ghost use Rattle.sheet.specs.Drawings.{listsOf};
 ghost use Rattle.sheet.specs.Rules.{Lawful};
-ghost use Rattle.schematic.specs.Calls.{checked};
 ghost use Rattle.rules.specs.Check.{checkOf};
-ghost use Rattle.bench_calls.specs.Numbered.{editOf};
 ghost use Rattle.bench_calls.specs.Timed.{evenTally, editAnswer, listAnswer, timedLoose, timedAnswer};
 use crate::edits::edit_checked;
 use crate::edits::edit_on;

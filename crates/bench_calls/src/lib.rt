@@ -6,7 +6,6 @@ pub mod tables;
 ghost use mathlib.Core.Path.{_≡_};
 ghost use lib.IntN.{pos};
 ghost use lib.ListN.{getD};
-ghost use Rattle.sheet.specs.Drawings.{drawn, emptySheet};
 ghost use Rattle.sheet.specs.Rules.{Lawful};
 ghost use Rattle.bench_calls.specs.Timed.{afterEdit, builtBy, timedAnswer, again};
 use crate::answers::answer;

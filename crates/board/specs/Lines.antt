@@ -32,11 +32,11 @@ pub record Reported : Type 0 where
 unfoldable pub reported : List ℕ → Edited → Reported
 reported answer e = record { printed = answer ++ rowsOf (e .tally) (e .drawing); drawing = e .drawing; tally = e .tally }
 
--- "Each edit prints `A <reply>`, for r and m followed by hit and lost, one space before each"
+-- "Each edit prints `A <reply>`"
 abbrev pub reportPlain : Edited → Reported
 reportPlain e = reported (answered (e .reply)) e
 
--- "for r and m followed by hit and lost"
+-- "for r and m followed by hit and lost, one space before each"
 abbrev pub reportCounted : Edited → Reported
 reportCounted e = reported (counted (e .reply) (e .hit) (e .lost)) e
 
