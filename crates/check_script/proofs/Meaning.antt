@@ -10,14 +10,14 @@ use lib.ListN.{length}
 use lib.IntN.{ℤ, pos, negsuc}
 use Rattle.lists.proofs.Tests.{choose, leb-reads, eqb-reads, clash}
 use Rattle.script.specs.Grammar.{byte, bytes, IsNumber, _␣_}
-use Rattle.script.specs.Reading.{found, then, fieldOf}
+use Rattle.script.specs.Reading.{found, then, fieldOf, ending}
 use Rattle.script.proofs.Parts.{end, behind-by, field-by, field-is}
 use Rattle.check_script.specs.declared.Said.{Said}
 use Rattle.check_script.specs.declared.Said.the-variants.{Unreadable}
 use Rattle.check_script.specs.Counts.{Table, wires, components, joints}
 use Rattle.check_script.specs.Grammar as g
 use Rattle.check_script.specs.Grammar.{IsRow, IsDrawingLine, IsSaid, readable, unreadable}
-use Rattle.check_script.specs.Reading.{ending, rowOf, countedOf, countOf, lineSaid, saidOf}
+use Rattle.check_script.specs.Reading.{rowOf, countedOf, countOf, lineSaid, saidOf}
 use Rattle.check_script.proofs.Parts.{ending-by}
 use Rattle.check_script.proofs.Rows.{row-by, row-is, row-readable}
 

@@ -11,13 +11,13 @@ use lib.ListN.{length}
 use lib.IntN.{ℤ}
 use Rattle.lists.proofs.Tests.{choose, leb-reads, eqb-reads}
 use Rattle.script.specs.Grammar.{byte, _␣_, HasLabel, none, some}
-use Rattle.script.specs.Reading.{Front, found, missing, then}
+use Rattle.script.specs.Reading.{Front, found, missing, then, ending}
 use Rattle.script.proofs.Parts.{Stops, end, space, behind-by, field-by, field-is}
 use Rattle.check_script.specs.declared.Said.{Said}
 use Rattle.check_script.specs.declared.Said.the-variants.{Unreadable}
 use Rattle.orientation.specs.declared.RotMirror.{RotMirror}
 use Rattle.check_script.specs.Grammar.{IsHeld, holds, IsSign, IsDirection, horizontal, vertical}
-use Rattle.check_script.specs.Reading.{fitted, fittedField, signOf, turnOf, ending, verticalOf, directionOf, labelledRow}
+use Rattle.check_script.specs.Reading.{fitted, fittedField, signOf, turnOf, verticalOf, directionOf, labelledRow}
 
 by-test : {B : Type 0} (P : B → Type 0) (b : Bool) {x y : B} → (b ≡ true → P x) → P y → P (cond b x y)
 by-test P true is not = is refl
@@ -52,7 +52,7 @@ module _ {B : Type 0} (P : B → Type 0) {e : B} (not : P e) (s : List ℕ) wher
       held-by R not s3 (λ D s4 d gd e4. is A B C D s4 (a, b, c, d) ga gb gc gd (rw (e1, e2, e3, e4))))))
 
 module _ (P : Said → Type 0) (not : P Unreadable) where
-  pub ending-by : (rest : List ℕ) {k : Said} → (rest ≡ [] → P k) → P (ending k rest)
+  pub ending-by : (rest : List ℕ) {k : Said} → (rest ≡ [] → P k) → P (ending Unreadable k rest)
   ending-by [] is = is refl
   ending-by (b ∷ rest) is = not
 
