@@ -3,8 +3,9 @@ use Prim.Native.Nat.{_≤_}
 use native.Mathlib.Omega.{arith}
 use mathlib.Core.Path.{_≡_, refl, sym, ap, _∙_}
 use mathlib.Core.List.{List, [], _∷_}
-use mathlib.Core.Bool.{Bool, true, false, _&&_, Bool·beq, false≢true}
+use mathlib.Core.Bool.{Bool, true, false, _&&_, Bool·beq}
 use lib.ListN.{getD}
+use Rattle.lists.proofs.Tests.{both}
 use Rattle.symbol.specs.declared.Point.{Point}
 use Rattle.sheet.specs.declared.Wire.{Wire}
 use Rattle.sheet.specs.Lines.{along, inside, on}
@@ -12,10 +13,6 @@ use Rattle.sheet.specs.Split.{left, right}
 use Rattle.sheet.proofs.Lines.{along-point}
 use Rattle.add_wire.specs.Marks.{crossing, isCrossed, cutAcross}
 use Rattle.add_wire.proofs.Marking.{on-true}
-
-and-first : (x y : Bool) → (x && y) ≡ true → x ≡ true
-and-first true y e = refl
-and-first false y e = absurd (false≢true e)
 
 module _ (n : Wire) (marks : List Bool) (w : Wire) where
   pub crossed-in-line : Bool·beq (w .vertical) (n .vertical) ≡ true → false ≡ isCrossed n marks w
@@ -34,7 +31,7 @@ module _ (n : Wire) (marks : List Bool) (w : Wire) where
     crossed-missed t = sym (met-is ∙ rw t)
 
     pub crossed-low : (x && y) ≡ true → w .line ≤ n .end
-    crossed-low t = let o = on-true p n (sym f ∙ and-first x y t) in omega (arith, o .to, ap (along (n .vertical)) q, along-point (n .vertical) (n .line) (w .line))
+    crossed-low t = let o = on-true p n (sym f ∙ both x y t .0) in omega (arith, o .to, ap (along (n .vertical)) q, along-point (n .vertical) (n .line) (w .line))
 
   pub across-cut : isCrossed n marks w ≡ true → cutAcross n marks w ≡ left (crossing n w) w ∷ right (crossing n w) w ∷ []
   unfolding cutAcross

@@ -2,10 +2,10 @@
 use Prim.Native.Nat.{ℕ, _+_, _-_, _≤_, _<_}
 use native.Mathlib.Omega.{arith}
 use mathlib.Core.Path.{_≡_, refl, sym, ap, _∙_, subst}
-use mathlib.Core.List.{List, [], _∷_, _++_, append-nil, append-assoc, Memᴰ·append-left as ∈-left, Memᴰ·append-right as ∈-right}
+use mathlib.Core.List.{List, [], _∷_, _++_, append-nil, append-assoc}
 use mathlib.Core.Bool.{Bool, true, false, not}
 use lib.Dec.{eqb}
-use lib.ListN.{getD, take, drop, take-append-drop, length-take}
+use lib.ListN.{getD, take, drop, length-take}
 use lib.Seq.{take-take}
 use Rattle.symbol.specs.declared.Point.{Point}
 use Rattle.lists.specs.Lists.{_∈_, any, keep, gather, insert}
@@ -13,6 +13,7 @@ use Rattle.lists.specs.Places.{span}
 use Rattle.lists.proofs.Lists.{keep-in, keep-append, gather-append, length-insert}
 use Rattle.lists.proofs.Passes.{gather-as, gather-gather, gather-each}
 use Rattle.lists.proofs.Places.{insertAt, insert-place, span-le}
+use Rattle.lists.proofs.Finding.{in-take, in-drop}
 use Rattle.sheet.specs.declared.Wire.{Wire}
 use Rattle.sheet.specs.Lines.{along, across, low, high, tip, tips, ends, on, Meets, first}
 use Rattle.sheet.specs.Split.{splitOne, splitAt, splitAll}
@@ -55,13 +56,6 @@ split-each [] ws = sym (gather-each ws)
 split-each (q ∷ qs) ws =
     split-each qs (gather (splitOne q) ws) ∙ gather-gather (λ v. splitAll qs (v ∷ [])) (splitOne q) ws
     ∙ gather-as ws (λ w m. sym (split-each qs (splitOne q w)) ∙ ap (splitAll qs) (sym (append-nil (splitOne q w))))
-
--- rows of a part are rows of the whole
-in-take : {A : Type 0} (p : ℕ) (xs : List A) {x : A} → x ∈ take p xs → x ∈ xs
-in-take p xs {x} m = subst (λ (l : List _). x ∈ l) (take-append-drop p xs) (∈-left (drop p xs) m)
-
-in-drop : {A : Type 0} (p : ℕ) (xs : List A) {x : A} → x ∈ drop p xs → x ∈ xs
-in-drop p xs {x} m = subst (λ (l : List _). x ∈ l) (take-append-drop p xs) (∈-right (take p xs) m)
 
 standing-on : (n : Wire) (ws : List Wire) (ps : List Point) (q : Point) → q ∈ standing n ws ps → On q n
 unfolding standing

@@ -1,11 +1,8 @@
 -- How long the words are at most.
 use mathlib.Core.Path.{_≡_, ap, _∙_}
-use mathlib.Core.Bool.{Bool, true, false, not, cond}
 use mathlib.Core.Logic.{⊎-elim}
-use mathlib.Core.List.{List, [], _∷_}
 use Prim.Native.Nat.{ℕ, suc, _-_, _≤_, _<_}
 use native.Mathlib.Omega.{arith}
-use lib.Dec.{eqb}
 use lib.IntN.{ℤ}
 use lib.ListN.{length}
 use mir.Syntax.{w32}
@@ -14,7 +11,6 @@ use mir.Facts.{toZ-ofZ}
 use Rattle.lists.proofs.Tests.{decide, ltb-reads}
 use Rattle.edge.specs.Coordinates.{coordOf}
 use Rattle.edge.proofs.Whole.{sub-pos, sub-neg, mag-sub}
-use Rattle.label.specs.Labels.{takeWhile, labelPart}
 use Rattle.text.specs.Text.{signedOf}
 use Rattle.text.proofs.Decimals.{length-decimal}
 
@@ -25,16 +21,6 @@ length-place n h = ⊎-elim
     (λ lt. omega (arith, ap (λ (z : ℤ). length (signedOf z)) (sub-neg n 6000 (omega (arith, lt))), length-decimal 3 (suc (6000 - suc n)) (omega (arith, lt))))
     (λ ge. omega (arith, ap (λ (z : ℤ). length (signedOf z)) (sub-pos n 6000 (omega (arith, ge))), length-decimal 4 (n - 6000) (omega (arith, ge))))
     (decide (ltb-reads n 6000))
-
--- a label is no longer than the bytes that hold it
-pub label-short : (bs : List ℕ) → length (labelPart bs) ≤ length bs
-unfolding labelPart
-label-short [] = omega arith
-label-short (b ∷ bs) = go (eqb b 0) (label-short bs)
-  where
-    go : (t : Bool) → length (takeWhile (λ c. not (eqb c 0)) bs) ≤ length bs → length (cond (not t) (b ∷ takeWhile (λ c. not (eqb c 0)) bs) []) ≤ suc (length bs)
-    go true h = omega arith
-    go false h = omega arith
 
 -- the coordinate of a row's number, as it is handed on
 pub handed : (n : ℕ) → n < 65536 → {z : ℤ} → z ≡ coordOf n → signedOf (toZ w32 (ofZ w32 z)) ≡ signedOf (coordOf n)

@@ -54,3 +54,13 @@ ok-case l k t e = ok-step l k ∙ (λ i. cond (e i) (labelOk (drop (sym (add-one
 pub ok-end : (l : List ℕ) (k : ℕ) → length l ≤ k → labelOk (drop k l) ≡ true
 unfolding labelOk
 ok-end l k h = ap labelOk (drop-of-length-le l h)
+
+-- a label is no longer than the bytes that hold it
+pub label-short : (bs : List ℕ) → length (labelPart bs) ≤ length bs
+unfolding labelPart
+label-short [] = omega arith
+label-short (b ∷ bs) = go (eqb b 0) (label-short bs)
+  where
+    go : (t : Bool) → length (takeWhile (λ c. not (eqb c 0)) bs) ≤ length bs → length (cond (not t) (b ∷ takeWhile (λ c. not (eqb c 0)) bs) []) ≤ suc (length bs)
+    go true h = omega arith
+    go false h = omega arith

@@ -7,14 +7,12 @@ use mathlib.Core.Logic.{_⊎_, inl, inr}
 use lib.Dec.{T}
 use Rattle.lists.specs.Lists.{Rows, links}
 use Rattle.lists.proofs.Adjacent.{Adjacent, empty, single, link}
-use Rattle.lists.proofs.Tests.{Reads, holds, reads-as, and-reads, or-reads, eqb-reads, leb-reads, ltb-reads, beq-reads}
+use Rattle.lists.proofs.Tests.{Reads, holds, reads-as, and-reads, or-reads, eqb-reads, leb-reads, ltb-reads, beq-reads, true-reads, false-reads}
 use Rattle.lists.proofs.Lists.{links-reads, rows-all, chain-rows}
 use Rattle.sheet.specs.declared.Wire.{Wire}
 use Rattle.sheet.specs.Lines.{Before, turned, next-line, same-line}
 use Rattle.sheet.specs.Wiring.{Fits, AllFit}
 use Rattle.sheet.proofs.Before.{before-trans}
-use Rattle.limits.proofs.Decides.{false-reads}
-use Rattle.row_order.proofs.Decides.{true-reads}
 use Rattle.lawful.specs.Looks.{before}
 
 before-reads : (a b : Wire) → Reads (Before a b) (before a b)

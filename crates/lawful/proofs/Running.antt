@@ -8,7 +8,7 @@ use mathlib.Core.Logic.{⊎-elim, _⊎_, inl, inr}
 use lib.Dec.{T}
 use lib.ListN.{length, getD, take, drop}
 use Rattle.lists.specs.Lists.{_∈_}
-use Rattle.lists.proofs.Tests.{holds, not-reads, and-reads, or-reads, eqb-reads, compare, clash}
+use Rattle.lists.proofs.Tests.{holds, not-reads, and-reads, or-reads, eqb-reads, compare, clash, true-reads}
 use Rattle.lists.proofs.Tables.{row-in}
 use Rattle.lists.proofs.Walks.{rows-from, rows-past}
 use Rattle.symbol.specs.declared.Point.{Point}
@@ -20,7 +20,6 @@ use Rattle.sheet.specs.Joints.{place, Rising}
 use Rattle.sheet.specs.Drawings.{zeroJoint}
 use Rattle.sheet.proofs.Points.{same-reads, rise-self, rise-asym}
 use Rattle.sheet.proofs.Lines.{same-dir, along-point, across-point}
-use Rattle.row_order.proofs.Decides.{true-reads}
 use Rattle.rules.proofs.Counted.{goes-on-reads}
 use Rattle.lawful.specs.Looks.{Chained, Clear, Run, done, more, Runs, clears}
 use Rattle.lists.proofs.Finding.{table-at, table-place}

@@ -4,7 +4,7 @@ use mathlib.Core.List.{List}
 use mathlib.Core.Path.{_≡_, refl, sym, ap, subst, _∙_}
 use lib.Dec.{T}
 use Rattle.lists.specs.Lists.{_∈_, Rows, links}
-use Rattle.lists.proofs.Tests.{holds, and-reads}
+use Rattle.lists.proofs.Tests.{holds, and-reads, true-reads}
 use Rattle.lists.proofs.Lists.{links-reads}
 use Rattle.symbol.specs.declared.Point.{Point}
 use Rattle.sheet.specs.declared.Wire.{Wire}
@@ -27,7 +27,6 @@ use Rattle.wires.specs.declared.Points.{Points}
 use Rattle.wires.specs.Tables.{pointRows}
 use Rattle.limits.specs.Limits.{check1}
 use Rattle.limits.proofs.Decides.{reads1}
-use Rattle.row_order.proofs.Decides.{true-reads}
 use Rattle.lawful.specs.Looks.{before, Runs}
 use Rattle.lawful.proofs.Ordered.{ordered}
 use Rattle.lawful.proofs.Seen.{none-inside, held-apart}

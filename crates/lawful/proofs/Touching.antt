@@ -21,7 +21,7 @@ use Rattle.sheet.specs.Parts.{position, box, ahead, PartFits}
 use Rattle.sheet.specs.Rules.{Rule5}
 use Rattle.sheet.proofs.Boxes.{shares-reads}
 use Rattle.sheet.proofs.Points.{rises-reads, rise-chain}
-use Rattle.limits.proofs.Decides.{in-drop}
+use Rattle.lists.proofs.Finding.{in-drop}
 use Rattle.lawful.specs.Looks.{far}
 
 -- the component's box shares no point with p

@@ -1,14 +1,15 @@
 -- The test of rule 1 decides it.
 use Prim.Native.Nat.{ℕ, _≤_}
 use mathlib.Core.Bool.{Bool, true, false, _&&_, not}
-use mathlib.Core.List.{List, Memᴰ·append-right as ∈-right}
+use mathlib.Core.List.{List}
 use mathlib.Core.Path.{_≡_, refl, sym, ap, _∙_, subst}
 use lib.Dec.{T}
-use lib.ListN.{length, take, drop, replicate, take-append-drop}
+use lib.ListN.{length, drop, replicate}
 use Rattle.lists.specs.Lists.{_∈_}
-use Rattle.lists.proofs.Tests.{both-T, clash, Reads, pass, fail, reads, test, reads-as, and-reads, eqb-reads, leb-reads, ltb-reads}
+use Rattle.lists.proofs.Tests.{both-T, Reads, reads, test, false-reads, reads-as, and-reads, eqb-reads, leb-reads, ltb-reads}
 use Rattle.lists.proofs.Tables.{all-zero, zeros-only}
 use Rattle.lists.proofs.Lists.{all-reads}
+use Rattle.lists.proofs.Finding.{in-drop}
 use Rattle.edge.specs.Coordinates.{insideOf}
 use Rattle.orientation.specs.Orientations.{eqZ, known, zeros, sameOf}
 use Rattle.orientation.specs.declared.RotMirror.{RotMirror}
@@ -24,13 +25,6 @@ use Rattle.sheet.specs.Drawings.{zeroWire, zeroComponent, zeroJoint, listsOf, S
 use Rattle.sheet.specs.Wiring.{Fits}
 use Rattle.sheet.specs.Rules.{Rule1}
 use Rattle.limits.specs.Limits.{blankWire, blankComponent, blankJoint, wireFits, componentFits, rooms, blanks, limits, check1}
-
-pub false-reads : (b : Bool) → Reads (b ≡ false) (not b)
-false-reads true = fail (λ e. clash refl e)
-false-reads false = pass refl
-
-pub in-drop : {A : Type 0} (n : ℕ) (rows : List A) {x : A} → x ∈ drop n rows → x ∈ rows
-in-drop n rows {x} m = subst (λ l. x ∈ l) (take-append-drop n rows) (∈-right (take n rows) m)
 
 blank-wire-reads : (w : Wire) → Reads (w ≡ zeroWire) (blankWire w)
 unfolding blankWire

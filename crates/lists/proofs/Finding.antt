@@ -3,9 +3,9 @@ use Prim.Native.Nat.{ℕ, zero, suc, _+_, _≤_, _<_, suc-le-suc}
 use native.Mathlib.Nat.{le-of-suc-le-suc}
 use native.Mathlib.Omega.{arith}
 use mathlib.Core.Bool.{Bool, not}
-use mathlib.Core.List.{List, [], _∷_, _++_, map, map-append, List·Memᴰ·head as ∈-head, List·Memᴰ·tail as ∈-tail}
+use mathlib.Core.List.{List, [], _∷_, _++_, map, map-append, List·Memᴰ·head as ∈-head, List·Memᴰ·tail as ∈-tail, Memᴰ·append-left as ∈-left, Memᴰ·append-right as ∈-right}
 use mathlib.Core.Path.{_≡_, refl, sym, ap, ap₂, subst, _∙_}
-use lib.ListN.{length, getD, set, take}
+use lib.ListN.{length, getD, set, take, drop, take-append-drop}
 use lib.Seq.{getD-take, length-take-le}
 use Rattle.lists.specs.Lists.{_∈_, Rows, none, more}
 use Rattle.lists.specs.Places.{span}
@@ -20,6 +20,13 @@ module _ {A : Type 0} where
   get-in [] i d h = absurd (omega arith)
   get-in (x ∷ xs) zero d h = ∈-head (λ i. x)
   get-in (x ∷ xs) (suc i) d h = ∈-tail (get-in xs i d (le-of-suc-le-suc h))
+
+  -- rows of a part are rows of the whole
+  pub in-take : (n : ℕ) (xs : List A) {x : A} → x ∈ take n xs → x ∈ xs
+  in-take n xs {x} m = subst (λ (l : List A). x ∈ l) (take-append-drop n xs) (∈-left (drop n xs) m)
+
+  pub in-drop : (n : ℕ) (xs : List A) {x : A} → x ∈ drop n xs → x ∈ xs
+  in-drop n xs {x} m = subst (λ (l : List A). x ∈ l) (take-append-drop n xs) (∈-right (take n xs) m)
 
   -- rows in order, by their places
   pub rows-at : {R : A → A → Type 0} {xs : List A} → Rows R xs → (i j : ℕ) (d : A) → i < j → j < length xs → R (getD xs i d) (getD xs j d)

@@ -3,12 +3,12 @@ use Prim.Native.Nat.{ℕ, _+_, _-_, _≤_, _<_}
 use native.Mathlib.Omega.{arith}
 use mathlib.Core.Path.{_≡_, refl, sym, ap, _∙_, subst}
 use mathlib.Core.List.{List, [], _∷_, _++_, append-assoc}
-use mathlib.Core.Bool.{Bool, true, false, _&&_, not, Bool·beq, false≢true}
+use mathlib.Core.Bool.{Bool, true, false, _&&_, not, Bool·beq}
 use lib.Dec.{T, eqb}
 use lib.ListN.{length, take, getD, set}
 use lib.Seq.{getD-take, length-take-le}
 use Rattle.symbol.specs.declared.Point.{Point}
-use Rattle.lists.proofs.Tests.{holds, and-reads, beq-reads, eqb-reads}
+use Rattle.lists.proofs.Tests.{both, holds, and-reads, beq-reads, eqb-reads}
 use Rattle.lists.proofs.Tables.{holds-push, holds-as}
 use Rattle.lists.proofs.Walks.{rows-from, Rest, rest-next, rest-end}
 use Rattle.sheet.specs.declared.Wire.{Wire}
@@ -40,10 +40,6 @@ joined-held : (h : Bool → Point → Bool) (a b : Wire) → inLine a b ≡ true
 joined-held h a b e =
     let t = holds (and-reads (beq-reads (a .vertical) (b .vertical)) (and-reads (eqb-reads (a .line) (b .line)) (eqb-reads (a .end) (b .start)))) (subst T (sym e) tt) in
     λ i. h (sym (t .0) i) (point (sym (t .0) i) (sym (t .1 .0) i) (b .end))
-
-and-first : (x y : Bool) → (x && y) ≡ true → x ≡ true
-and-first true y e = refl
-and-first false y e = absurd (false≢true e)
 
 -- ---- the pass
 
@@ -81,7 +77,7 @@ module _ {rows : List Wire} {n i : ℕ} {ps : List Point} {flags : List Bool} {a
     done = m .done;
     holding = m .holding;
     rest = rest-next d (m .rest) (λ bs. rw (sym test ∙ t)) l k;
-    apart = flag-at rows n i d f l k ∙ joined-held (heldApart (take n rows) ps) a (getD rows i d) (sym e ∙ and-first x (not y) t);
+    apart = flag-at rows n i d f l k ∙ joined-held (heldApart (take n rows) ps) a (getD rows i d) (sym e ∙ both x (not y) t .0);
   }
 
   pub merge-push : (x && not y) ≡ false → out .count < 512 → Merging rows n ps flags (i + 1) (getD rows i d) (record { rows = set (out .rows) (out .count) a; count = out .count + 1 })

@@ -18,7 +18,7 @@ use Rattle.sheet.proofs.JointRows.{joints-listed}
 use Rattle.nets.specs.Nets.{Numbered}
 use Rattle.nets.specs.Numbers.{byNumber}
 use Rattle.nets.proofs.Told.{OwnNumbers, numbers-right, numbers-low}
-use Rattle.net_numbers.specs.Netted.{linkEnds, isPower, netOn, numberOfJoint, netNumbers}
+use Rattle.net_numbers.specs.Netted.{endsOf, isPower, netOn, numberOfJoint, netNumbers}
 use Rattle.lists.proofs.Finding.{span-found}
 
 -- a point with a joint has that joint's row for its number

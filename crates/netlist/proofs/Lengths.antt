@@ -1,15 +1,16 @@
 -- 7,936 bytes always suffice: 62 for each of 128 components, where labels have at most 16 bytes and numbers three digits.
 use mathlib.Core.Path.{_≡_, refl, subst}
-use mathlib.Core.Bool.{Bool, true, false, not, cond}
-use mathlib.Core.List.{List, [], _∷_, map, Memᴰ·of-map as ∈-of-map, Memᴰ·append-left as ∈-left, List·Memᴰ·head as ∈-head, List·Memᴰ·tail as ∈-tail}
+use mathlib.Core.Bool.{Bool, true, false, cond}
+use mathlib.Core.List.{List, [], _∷_, map, Memᴰ·of-map as ∈-of-map, List·Memᴰ·head as ∈-head, List·Memᴰ·tail as ∈-tail}
 use Prim.Native.Nat.{ℕ, zero, suc, _+_, _*_, _≤_, _<_}
 use native.Mathlib.Omega.{arith}
 use lib.Dec.{eqb}
-use lib.ListN.{length, take, drop, length-append, length-map, take-append-drop}
+use lib.ListN.{length, length-append, length-map}
 use Rattle.lists.specs.Lists.{_∈_}
 use Rattle.lists.proofs.Tests.{Reads, pass, fail, eqb-reads}
 use Rattle.lists.proofs.Lists.{length-gather}
-use Rattle.label.specs.Labels.{takeWhile, labelPart}
+use Rattle.lists.proofs.Finding.{in-take}
+use Rattle.label.proofs.Labels.{label-short}
 use Rattle.sheet.specs.declared.Drawing.{Drawing}
 use Rattle.sheet.specs.Parts.{pads}
 use Rattle.sheet.specs.Drawings.{Sized, listsOf}
@@ -71,19 +72,6 @@ module _ (net : ℕ → ℕ) (digits : (j : ℕ) → length (decimalOf (net j)) 
   list-short : (es : List Entry) → ((e : Entry) → e ∈ es → length (e .label) ≤ 16) → length es ≤ 128 → length (listWith net es) ≤ 7936
   list-short es h n = omega (arith, both-short es 0 h, length-list net es)
 
-label-short : (bs : List ℕ) → length (labelPart bs) ≤ length bs
-unfolding labelPart
-label-short [] = omega arith
-label-short (b ∷ bs) = go (eqb b 0) (label-short bs)
-  where
-    go : (t : Bool) → length (takeWhile (λ c. not (eqb c 0)) bs) ≤ length bs → length (cond (not t) (b ∷ takeWhile (λ c. not (eqb c 0)) bs) []) ≤ suc (length bs)
-    go true h = omega arith
-    go false h = omega arith
-
--- ---- for lists
-in-take : {A : Type 0} (xs : List A) (n : ℕ) {x : A} → x ∈ take n xs → x ∈ xs
-in-take xs n {x} m = subst (λ l. x ∈ l) (take-append-drop n xs) (∈-left (drop n xs) m)
-
 -- "7,936 bytes always suffice"
 pub list-room : {d : Drawing} → Lawful d → Sized d → length (listOf (listsOf d)) ≤ 7936
 unfolding listOf
@@ -92,5 +80,5 @@ list-room {d} l z =
     let room = lawful-room l in
     let low : (j : ℕ) → nth (netNumbers s) j < 1000 = λ j. omega (arith, net-numbers-low s j, length-gather pads length-pads (s .parts), room .parts) in
     list-short (nth (netNumbers s)) (λ j. length-decimal 2 (nth (netNumbers s) j) (low j)) (map entry (s .parts))
-    (λ e m. let r = ∈-of-map entry (s .parts) m in subst (λ (x : Entry). length (x .label) ≤ 16) (r .2) (omega (arith, label-short (r .0 .label), z .labels (r .0) (in-take (d .components .rows) (d .components .count) (r .1)))))
+    (λ e m. let r = ∈-of-map entry (s .parts) m in subst (λ (x : Entry). length (x .label) ≤ 16) (r .2) (omega (arith, label-short (r .0 .label), z .labels (r .0) (in-take (d .components .count) (d .components .rows) (r .1)))))
     (omega (arith, length-map (s .parts) entry, room .parts))

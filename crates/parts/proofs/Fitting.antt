@@ -1,18 +1,18 @@
 -- Components that meet the limits: those in a table, those in the tables that the functions give, and a turned one.
 use Prim.Native.Nat.{ℕ, _<_}
 use native.Mathlib.Omega.{arith}
-use mathlib.Core.Bool.{Bool, true, false}
+use mathlib.Core.Bool.{Bool}
 use mathlib.Core.List.{List}
 use mathlib.Core.Logic.{⊎-elim}
-use mathlib.Core.Path.{_≡_, refl, sym, ap, subst, _∙_}
-use lib.Dec.{T}
+use mathlib.Core.Path.{_≡_, sym, ap, subst, _∙_}
 use lib.ListN.{length, getD}
 use Rattle.lists.specs.Lists.{_∈_, keep, insert}
 use Rattle.lists.proofs.Lists.{keep-old, insert-in}
 use Rattle.lists.proofs.Tables.{row-in, holds-list}
 use Rattle.orientation.specs.declared.RotMirror.{RotMirror}
 use Rattle.orientation.specs.declared.Turned.{Turned}
-use Rattle.orientation.specs.Orientations.{known, turnedBy, turnIs}
+use Rattle.orientation.specs.Orientations.{turnedBy}
+use Rattle.orientation.proofs.Turns.{turn-known}
 use Rattle.sheet.specs.declared.Component.{Component}
 use Rattle.sheet.specs.declared.Components.{Components}
 use Rattle.sheet.specs.Parts.{PartFits, ahead, reoriented}
@@ -23,18 +23,9 @@ use Rattle.parts.specs.Tables.{TabledParts, PartsFit}
 pub row-fits : {t : Components} {i : ℕ} (d : Component) → PartsFit t → length (t .rows) ≡ 128 → i < t .count → PartFits (getD (t .rows) i d)
 row-fits {t} {i} d h e b = h .each (getD (t .rows) i d) (row-in (t .rows) (t .count) i d b (omega (arith, h .room)))
 
--- a known orientation is turned, not refused
-pub known-turned : (f : RotMirror → RotMirror) (o : RotMirror) → T (known o) → turnedBy f o ≡ turnIs (f o)
-unfolding turnedBy
-known-turned f o t = rw (true-is (known o) t)
-  where
-    true-is : (b : Bool) → T b → b ≡ true
-    true-is true t = refl
-    true-is false t = absurd t
-
 -- a component with the orientation that a turn gives
 pub turned-part : (f : RotMirror → RotMirror) (c : Component) {t : Turned} {r : Component} → PartFits c → t ≡ turnedBy f (c .«rot_mirror») → r ≡ reoriented (λ o. t .turn) c → r ≡ reoriented f c
-turned-part f c h e q = q ∙ ap (λ (t : Turned). reoriented (λ o. t .turn) c) (e ∙ known-turned f (c .«rot_mirror») (h .orientation))
+turned-part f c h e q = q ∙ ap (λ (t : Turned). reoriented (λ o. t .turn) c) (e ∙ turn-known f (c .«rot_mirror») (h .orientation))
 
 -- ---- tables that the functions give still hold components that meet the limits
 

@@ -4,7 +4,7 @@ use mathlib.Core.Bool.{Bool, true, false}
 use mathlib.Core.List.{List}
 use mathlib.Core.Path.{_≡_, refl}
 use mathlib.Core.Logic.{⊎-elim, _⊎_, inl, inr}
-use Rattle.lists.proofs.Tests.{clash, Reads, pass, fail, reads-as, not-reads, and-reads, or-reads, eqb-reads, ltb-reads, beq-reads, same-or-turned}
+use Rattle.lists.proofs.Tests.{Reads, reads-as, true-reads, not-reads, and-reads, or-reads, eqb-reads, ltb-reads, beq-reads, same-or-turned}
 use Rattle.lists.proofs.Lists.{pairs-reads, links-reads}
 use Rattle.sheet.specs.declared.Wire.{Wire}
 use Rattle.sheet.specs.declared.Joint.{Joint}
@@ -24,10 +24,6 @@ share-reads a b = reads-as (λ t. record { dir = t .0; line = t .1 .0; from = t 
 pub reads2 : (ws : List Wire) → Reads (Rule2 ws) (check2 ws)
 unfolding check2
 reads2 ws = pairs-reads (λ a b. not-reads (share-reads a b)) ws
-
-pub true-reads : (b : Bool) → Reads (b ≡ true) b
-true-reads true = pass refl
-true-reads false = fail (λ e. clash e refl)
 
 upward-reads : (a b : Wire) → Reads (Upward a b) (upward a b)
 unfolding upward

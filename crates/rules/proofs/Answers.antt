@@ -17,7 +17,8 @@ use Rattle.sheet.specs.Points.{same, rises}
 use Rattle.sheet.specs.Joints.{place, jointsOf}
 use Rattle.sheet.specs.Parts.{padsOf, ahead}
 use Rattle.sheet.specs.Drawings.{Sheet, joints, zeroJoint, jointTable, jointRows, listsOf, marksOf}
-use Rattle.sheet.specs.Wiring.{AllFit, Roomy}
+use Rattle.sheet.specs.Wiring.{AllFit}
+use Rattle.sheet.proofs.Wiring.{Roomy}
 use Rattle.sheet.proofs.Totals.{joint-room}
 use Rattle.rules.specs.declared.Touching.{Touching}
 use Rattle.limits.specs.Limits.{check1}

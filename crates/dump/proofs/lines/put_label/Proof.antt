@@ -8,7 +8,7 @@ use Rattle.label.specs.Labels.{labelPart}
 use Rattle.text.proofs.Puts.{put-as}
 use Rattle.dump.proofs.Runs.{puts-byte, puts-then, puts-short}
 use Rattle.dump.specs.Rows.{labelWord}
-use Rattle.dump.proofs.Lengths.{label-short}
+use Rattle.label.proofs.Labels.{label-short}
 use borrow.Author.Needs.{needs}
 use Rattle.dump.proofs.lines.put_label.Statement.{statement}
 use Rattle.dump.proofs.lines.put_label.Tie as tie
