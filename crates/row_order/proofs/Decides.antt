@@ -4,7 +4,7 @@ use mathlib.Core.Bool.{Bool, true, false}
 use mathlib.Core.List.{List}
 use mathlib.Core.Path.{_≡_, refl}
 use mathlib.Core.Logic.{⊎-elim, _⊎_, inl, inr}
-use Rattle.lists.proofs.Tests.{Reads, reads-as, true-reads, not-reads, and-reads, or-reads, eqb-reads, ltb-reads, beq-reads, same-or-turned}
+use Rattle.lists.proofs.Tests.{clash, Reads, reads-as, true-reads, not-reads, and-reads, or-reads, eqb-reads, ltb-reads, beq-reads, same-or-turned}
 use Rattle.lists.proofs.Lists.{pairs-reads, links-reads}
 use Rattle.sheet.specs.declared.Wire.{Wire}
 use Rattle.sheet.specs.declared.Joint.{Joint}

@@ -39,9 +39,9 @@ pub struct Added {
     pub sketch: Sketch,
 }
 
-// No rows.
-pub fn empty() -> Sketch
-    ensures { λ r. ⌜ r ≡ emptySketch ⌝ }
+// The drawing without rows.
+fn blank_drawing() -> Drawing
+    ensures { λ r. ⌜ r ≡ emptySketch .drawing ⌝ }
 {
     let wire = Wire {
         vertical: false,
@@ -73,16 +73,23 @@ pub fn empty() -> Sketch
         rows: [joint; 1408],
         count: 0,
     };
+    Drawing {
+        wires,
+        components,
+        joints,
+    }
+}
+
+// No rows.
+pub fn empty() -> Sketch
+    ensures { λ r. ⌜ r ≡ emptySketch ⌝ }
+{
     let none = Filled {
         counted: 0,
         used: 0,
         told: false,
     };
-    let drawing = Drawing {
-        wires,
-        components,
-        joints,
-    };
+    let drawing = blank_drawing();
     Sketch {
         drawing,
         wires: none,
