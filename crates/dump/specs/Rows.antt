@@ -35,6 +35,7 @@ letterOf vertical = cond vertical 118 104
 abbrev pub numberIn : NumberReply → ℕ
 numberIn r = cond (eqb (r .reply) 0) (r .number) 8
 
+-- the orientation as scripts have it
 abbrev pub orientNumber : RotMirror → ℕ
 orientNumber o = numberIn (numberOf o)
 

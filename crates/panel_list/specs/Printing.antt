@@ -12,6 +12,7 @@ use Rattle.step.specs.Steps.{After, stepOf}
 use Rattle.step.specs.Redrawing.{redrawn}
 use Rattle.panel_list.specs.declared.answers.Taken.{Taken}
 
+-- a drawing, and what was printed up to it
 abbrev pub after : Drawing → List ℕ → After
 after d printed = record { drawing = d; printed = printed }
 

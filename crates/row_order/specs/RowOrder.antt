@@ -16,6 +16,7 @@ use Rattle.sheet.specs.Drawings.{Sheet}
 unfoldable pub share : Wire → Wire → Bool
 share a b = Bool·beq (a .vertical) (b .vertical) && (eqb (a .line) (b .line) && (ltb (a .start) (b .end) && ltb (b .start) (a .end)))
 
+-- rule 2
 unfoldable pub check2 : List Wire → Bool
 check2 ws = pairs (λ a b. not (share a b)) ws
 
@@ -27,5 +28,6 @@ upward a b =
     (not (a .vertical) && b .vertical)
     || (Bool·beq (a .vertical) (b .vertical) && (ltb (a .line) (b .line) || (eqb (a .line) (b .line) && ltb (a .start) (b .start))))
 
+-- rule 7, each row against the next
 unfoldable pub check7 : Sheet → List Joint → Bool
 check7 s js = links upward (s .wires) && (links ahead (s .parts) && links (λ i j. rises (place i) (place j)) js)

@@ -27,6 +27,7 @@ use Rattle.rules.specs.declared.Touching.{Touching}
 unfoldable pub free : List Wire → Point → Bool
 free ws p = all (λ w. not (inside p w)) ws
 
+-- rule 3: each wire end and pad is free
 unfoldable pub check3 : List Wire → List Point → Bool
 check3 ws ps = all (free ws) (marks ws ps)
 
@@ -34,11 +35,13 @@ check3 ws ps = all (free ws) (marks ws ps)
 unfoldable pub bare : Bool → List Wire → List Point → Point → Bool
 bare v ws ps p = eqb (endsAt v ws p) 2 && (eqb (endsAt (not v) ws p) 0 && not (any (same p) ps))
 
+-- rule 4
 unfoldable pub check4 : List Wire → List Point → Bool
 check4 ws ps = all (λ p. not (bare false ws ps p || bare true ws ps p)) (ends ws)
 
 -- ---- rule 5: "it stops at the first pair of boxes that share a point, by lower row and then higher, and tells both rows, counted from 0"
 
+-- no such pair
 abbrev pub none : Touching
 none = record { found = false; first = 0; second = 0 }
 
@@ -54,6 +57,7 @@ touchingFrom i (c ∷ cs) = touchingOne i c (suc i) cs (touchingFrom (suc i) cs)
 
 -- ---- rule 6
 
+-- rule 6: no point twice; each wire end and pad has a row; each row lies at one, and has their number
 unfoldable pub check6 : List Joint → List Point → Bool
 check6 js ps =
     pairs (λ i j. not (same (place i) (place j))) js
@@ -70,6 +74,7 @@ broken k = record { rule = k; first = 0; second = 0 }
 abbrev pub unless : Bool → ℕ → Checked → Checked
 unless b k other = cond b other (broken k)
 
+-- rule 5 is told with the pair, if there is one
 abbrev pub unlessTouching : Touching → Checked → Checked
 unlessTouching t other = cond (t .found) (record { rule = 5; first = t .first; second = t .second }) other
 
@@ -83,6 +88,7 @@ fromRule5 d =
     (unless (check7 s js) 7
     (broken 0)))
 
+-- the first broken rule
 unfoldable pub checkOf : Drawing → Checked
 checkOf d =
     let s = listsOf d in

@@ -43,12 +43,15 @@ pub record After : Type 0 where
   pub drawing : Drawing
   pub printed : List ℕ
 
+-- an edit, answered by its reply
 abbrev pub plainly : Edited → After
 plainly e = record { drawing = e .drawing; printed = answered (e .reply) }
 
+-- a turn or mirror, answered by reply, hit and lost
 abbrev pub countedly : Edited → After
 countedly e = record { drawing = e .drawing; printed = counted (e .reply) (e .hit) (e .lost) }
 
+-- the list printed, the drawing as it was
 abbrev pub listedly : Drawing → After
 listedly d = record { drawing = d; printed = listed (listsOf d) }
 
@@ -74,6 +77,7 @@ does d line Nets = listedly d
 -- "an unreadable line prints `A 10`"
 does d line Unreadable = plainly (refused 10 d noTally)
 
+-- what a line does and prints
 unfoldable pub stepOf : Drawing → List ℕ → After
 stepOf d line = does d line (commandOf line)
 
