@@ -48,18 +48,32 @@ fn main() {
     time_shapes();
 }
 
+/// How often both forms of the check are timed, in turns: a slow spell of the machine is longer than one time taken.
+const TURNS: usize = 4;
+
+/// Nanoseconds of the plain form of the check and of the fast one, on a lawful drawing.
+fn time_checks(ours: &Ours) -> [f64; 2] {
+    let forms = [Call::CheckPlainly, Call::Check];
+    for form in forms {
+        assert_eq!(ours.answer(form, Numbered::NONE), 0, "the drawing is lawful");
+    }
+    let mut least = [f64::INFINITY; 2];
+    for _ in 0..TURNS {
+        for (form, least) in forms.into_iter().zip(&mut least) {
+            *least = least.min(ours.time(form, Numbered::NONE));
+        }
+    }
+    least
+}
+
 /// Both forms of the check on full drawings of other shapes.
 fn time_shapes() {
     println!("\n| full drawing | wires | joints | check, plain, ns | check, ns | times |\n|---|---|---|---|---|---|");
     for shape in shapes() {
         let ours = Ours::new(&shape.edits);
-        let time = |call| {
-            assert_eq!(ours.answer(call, Numbered::NONE), 0, "{} is lawful", shape.name);
-            ours.time(call, Numbered::NONE)
-        };
-        let joints = ours.answer(Call::CountJoints, Numbered::NONE);
         let wires = ours.answer(Call::Merge, Numbered::NONE);
-        let (plain, fast) = (time(Call::CheckPlainly), time(Call::Check));
+        let joints = ours.answer(Call::CountJoints, Numbered::NONE);
+        let [plain, fast] = time_checks(&ours);
         println!("| {} | {wires} | {joints} | {plain:.0} | {fast:.0} | {:.0} |", shape.name, plain / fast);
     }
 }
@@ -126,11 +140,9 @@ fn time_looks(table: &mut Table, size: usize, board: &Board, ours: &Ours) {
     for call in [Call::LooseOn, Call::Loose] {
         assert_eq!(ours.answer(call, Numbered::NONE), loose, "loose points");
     }
-    for call in [Call::CheckPlainly, Call::Check] {
-        assert_eq!(ours.answer(call, Numbered::NONE), 0, "the drawing is lawful");
-    }
-    table.row("check, plain", size, &time(Call::CheckPlainly), None);
-    table.row("check", size, &time(Call::Check), None);
+    let [plain, fast] = time_checks(ours);
+    table.row("check, plain", size, &[plain], None);
+    table.row("check", size, &[fast], None);
     let list = [theirs::time_look(&board.state, |state| state.build_netlist())];
     table.row("list, drawing known to be lawful", size, &time(Call::ListOn), Some(&list));
     table.row("list, public call", size, &time(Call::List), Some(&list));
