@@ -10,7 +10,8 @@ use lib.Seq.{take-take}
 use Rattle.symbol.specs.declared.Point.{Point}
 use Rattle.lists.specs.Lists.{_∈_, any, keep, gather, insert}
 use Rattle.lists.specs.Places.{span}
-use Rattle.lists.proofs.Lists.{keep-in, keep-append, gather-append, length-insert}
+use Rattle.lists.proofs.Lists.{keep-in}
+use Rattle.lists.proofs.Appends.{keep-append, gather-append, length-insert}
 use Rattle.lists.proofs.Passes.{gather-as, gather-gather, gather-each}
 use Rattle.lists.proofs.Places.{insertAt, insert-place, span-le}
 use Rattle.lists.proofs.Finding.{in-take, in-drop}

@@ -12,7 +12,7 @@ use lib.Seq.{getD-set-same, getD-set-other}
 use Rattle.symbol.specs.declared.Point.{Point}
 use Rattle.lists.specs.Lists.{any, keep}
 use Rattle.lists.proofs.Tests.{decide, holds, eqb-reads}
-use Rattle.lists.proofs.Lists.{any-append, keep-append}
+use Rattle.lists.proofs.Appends.{any-append, keep-append}
 use Rattle.sheet.specs.declared.Wire.{Wire}
 use Rattle.sheet.specs.Lines.{along, on, low, high, tip, tips}
 use Rattle.sheet.proofs.Lines.{On, on-reads}

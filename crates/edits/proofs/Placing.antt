@@ -9,7 +9,8 @@ use mathlib.Core.Path.{_≡_, refl, sym, ap, _∙_, subst}
 use lib.ListN.{length, take, getD, length-map}
 use lib.Seq.{length-take-le}
 use Rattle.lists.specs.Lists.{_∈_, any, insert}
-use Rattle.lists.proofs.Lists.{insert-in, length-insert}
+use Rattle.lists.proofs.Lists.{insert-in}
+use Rattle.lists.proofs.Appends.{length-insert}
 use Rattle.lists.proofs.Tables.{holds-as, holds-list, holds-self, holds-count}
 use Rattle.lists.proofs.Walks.{Rest, rest-next, rest-end}
 use Rattle.sheet.specs.declared.Component.{Component}

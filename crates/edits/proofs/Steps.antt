@@ -7,7 +7,8 @@ use mathlib.Core.Path.{_≡_, refl, sym, ap, _∙_, subst}
 use lib.ListN.{length, length-map}
 use Rattle.lists.specs.Lists.{_∈_, keep, insert}
 use Rattle.lists.proofs.Tests.{test, not-reads}
-use Rattle.lists.proofs.Lists.{keep-all, keep-old, length-parts, length-insert}
+use Rattle.lists.proofs.Lists.{keep-all, keep-old}
+use Rattle.lists.proofs.Appends.{length-parts, length-insert}
 use Rattle.lists.proofs.Tables.{holds-as, holds-list, holds-self, holds-count}
 use Rattle.symbol.specs.declared.Point.{Point}
 use Rattle.sheet.specs.declared.Wire.{Wire}

@@ -10,7 +10,7 @@ use lib.ListN.{length, getD, set, take, replicate, getD-replicate, length-replic
 use lib.Seq.{getD-set-same, getD-set-other, getD-take, length-take-le}
 use Rattle.lists.specs.Lists.{_∈_, Rows}
 use Rattle.lists.proofs.Tests.{holds, decide, choose, and-reads, not-reads, eqb-reads, compare}
-use Rattle.lists.proofs.Lists.{rows-all, rows-map}
+use Rattle.lists.proofs.Order.{rows-all, rows-map}
 use Rattle.lists.proofs.Passes.{take-more}
 use Rattle.lists.proofs.Finding.{get-in, rows-at, table-place}
 use Rattle.symbol.specs.declared.Point.{Point}

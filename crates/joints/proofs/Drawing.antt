@@ -5,7 +5,7 @@ use mathlib.Core.List.{List}
 use mathlib.Core.Path.{_≡_, sym, ap, _∙_}
 use lib.ListN.{length}
 use lib.Seq.{length-take-le}
-use Rattle.lists.proofs.Lists.{length-gather}
+use Rattle.lists.proofs.Appends.{length-gather}
 use Rattle.symbol.specs.declared.Point.{Point}
 use Rattle.sheet.specs.declared.Wires.{Wires}
 use Rattle.sheet.specs.declared.Components.{Components}

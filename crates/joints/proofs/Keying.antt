@@ -7,7 +7,7 @@ use mathlib.Core.Path.{_≡_, refl, sym, ap, ap₂, subst, _∙_}
 use lib.ListN.{length, take, getD, set, length-set, length-take, length-append}
 use lib.Seq.{getD-take}
 use Rattle.lists.specs.Lists.{keep}
-use Rattle.lists.proofs.Tables.{take-push}
+use Rattle.lists.proofs.Pushes.{take-push}
 use Rattle.lists.proofs.Passes.{take-more}
 use Rattle.lists.proofs.Finding.{maps-at}
 use Rattle.symbol.specs.declared.Point.{Point}

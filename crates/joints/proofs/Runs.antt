@@ -9,7 +9,8 @@ use mathlib.Core.Path.{_≡_, refl, sym, ap, subst, _∙_}
 use lib.Dec.{eqb}
 use Rattle.lists.specs.Lists.{_∈_, Rows, more}
 use Rattle.lists.proofs.Tests.{choose, decide, eqb-reads}
-use Rattle.lists.proofs.Lists.{in-cons, rows-head, rows-tail}
+use Rattle.lists.proofs.Lists.{in-cons}
+use Rattle.lists.proofs.Order.{rows-head, rows-tail}
 use Rattle.symbol.specs.declared.Point.{Point}
 use Rattle.sheet.specs.declared.Joint.{Joint}
 use Rattle.sheet.specs.Points.{Rise, lower, level}

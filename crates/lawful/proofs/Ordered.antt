@@ -8,7 +8,8 @@ use lib.Dec.{T}
 use Rattle.lists.specs.Lists.{Rows, links}
 use Rattle.lists.proofs.Adjacent.{Adjacent, empty, single, link}
 use Rattle.lists.proofs.Tests.{Reads, holds, reads-as, and-reads, or-reads, eqb-reads, leb-reads, ltb-reads, beq-reads, true-reads, false-reads}
-use Rattle.lists.proofs.Lists.{links-reads, rows-all, chain-rows}
+use Rattle.lists.proofs.Lists.{links-reads}
+use Rattle.lists.proofs.Order.{rows-all, chain-rows}
 use Rattle.sheet.specs.declared.Wire.{Wire}
 use Rattle.sheet.specs.Lines.{Before, turned, next-line, same-line}
 use Rattle.sheet.specs.Wiring.{Fits, AllFit}

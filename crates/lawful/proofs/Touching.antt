@@ -9,7 +9,8 @@ use lib.Dec.{T}
 use lib.ListN.{length, getD, take, drop}
 use Rattle.lists.specs.Lists.{_∈_, Rows, none, more, links}
 use Rattle.lists.proofs.Tests.{holds, not-reads, or-reads, ltb-reads}
-use Rattle.lists.proofs.Lists.{in-cons, rows-head, links-reads}
+use Rattle.lists.proofs.Lists.{in-cons, links-reads}
+use Rattle.lists.proofs.Order.{rows-head}
 use Rattle.lists.proofs.Walks.{rows-from, rows-past}
 use Rattle.symbol.specs.declared.Bounds.{Bounds}
 use Rattle.symbol.specs.Symbols.{touchesOf}

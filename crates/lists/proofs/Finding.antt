@@ -10,7 +10,7 @@ use lib.Seq.{getD-take, length-take-le}
 use Rattle.lists.specs.Lists.{_∈_, Rows, none, more}
 use Rattle.lists.specs.Places.{span}
 use Rattle.lists.proofs.Tests.{Reads, choose, stable, not-reads}
-use Rattle.lists.proofs.Tables.{take-push}
+use Rattle.lists.proofs.Pushes.{take-push}
 use Rattle.lists.proofs.Passes.{take-more}
 
 -- ---- for lists

@@ -1,7 +1,10 @@
 pub mod Tests
 pub mod Adjacent
 pub mod Lists
+pub mod Appends
+pub mod Order
 pub mod Tables
+pub mod Pushes
 pub mod Walks
 pub mod Passes
 pub mod Places

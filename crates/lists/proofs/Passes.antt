@@ -9,7 +9,7 @@ use mathlib.Core.Bool.{Bool, true, false, _||_, cond, true≢false}
 use lib.ListN.{length, getD, take, drop, length-append, take-append-drop}
 use lib.Seq.{take-suc, take-take}
 use Rattle.lists.specs.Lists.{_∈_, any, keep, gather}
-use Rattle.lists.proofs.Lists.{keep-append, gather-append}
+use Rattle.lists.proofs.Appends.{keep-append, gather-append}
 
 module _ {A : Type 0} where
   -- one row more

@@ -3,7 +3,7 @@ use mathlib.Core.Path.{_≡_, refl, ap, _∙_}
 use mathlib.Core.List.{List, [], _∷_, map}
 use mathlib.Core.Bool.{Bool, false, _||_}
 use Rattle.lists.specs.Lists.{any, gather}
-use Rattle.lists.proofs.Lists.{any-append}
+use Rattle.lists.proofs.Appends.{any-append}
 
 module _ {A : Type 0} where
   -- one test is as good as another that tells the same of each row

@@ -10,8 +10,9 @@ use lib.ListN.{length, take, set}
 use Rattle.symbol.specs.declared.Point.{Point}
 use Rattle.lists.specs.Lists.{_∈_, any, gather}
 use Rattle.lists.proofs.Tests.{reads-as, same-test, eqb-reads, and-reads}
-use Rattle.lists.proofs.Lists.{any-append, in-cons}
-use Rattle.lists.proofs.Tables.{take-push, take-push-two}
+use Rattle.lists.proofs.Appends.{any-append}
+use Rattle.lists.proofs.Lists.{in-cons}
+use Rattle.lists.proofs.Pushes.{take-push, take-push-two}
 use Rattle.lists.proofs.Somes.{any-as, any-never, any-gather, any-map}
 use Rattle.sheet.specs.declared.Wire.{Wire}
 use Rattle.sheet.specs.Points.{same}

@@ -8,7 +8,7 @@ use lib.Dec.{eqb}
 use lib.ListN.{length, length-append, length-map}
 use Rattle.lists.specs.Lists.{_∈_}
 use Rattle.lists.proofs.Tests.{Reads, pass, fail, eqb-reads}
-use Rattle.lists.proofs.Lists.{length-gather}
+use Rattle.lists.proofs.Appends.{length-gather}
 use Rattle.lists.proofs.Finding.{in-take}
 use Rattle.label.proofs.Labels.{label-short}
 use Rattle.sheet.specs.declared.Drawing.{Drawing}

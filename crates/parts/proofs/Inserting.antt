@@ -9,7 +9,8 @@ use lib.Seq.{take-set-lt, drop-set-lt}
 use Rattle.lists.specs.Lists.{insert}
 use Rattle.lists.specs.Tables.{Holds}
 use Rattle.lists.proofs.Tests.{clash}
-use Rattle.lists.proofs.Tables.{take-push, holds-as, holds-set, holds-push}
+use Rattle.lists.proofs.Pushes.{take-push}
+use Rattle.lists.proofs.Tables.{holds-as, holds-set, holds-push}
 use Rattle.lists.proofs.Passes.{take-more}
 use Rattle.lists.proofs.Walks.{rows-from, rows-past}
 

@@ -5,7 +5,7 @@ use mathlib.Core.List.{List, [], _∷_, _++_}
 use mathlib.Core.Path.{_≡_, refl, sym, ap, subst, _∙_}
 use lib.ListN.{length, take, getD, set, replicate, length-append, length-set, length-take, length-replicate, length-map}
 use lib.Seq.{take-take, take-append-seam}
-use Rattle.lists.proofs.Tables.{three-of, take-three}
+use Rattle.lists.proofs.Pushes.{three-of, take-three}
 use Rattle.symbol.specs.declared.Point.{Point}
 use Rattle.symbol.specs.declared.PadBlock.{PadBlock}
 use Rattle.symbol.specs.Symbols.{unused, padBlock, padsAt, movedOf}

@@ -9,7 +9,7 @@ use lib.Dec.{T, eqb}
 use lib.IntN.{ℤ}
 use lib.Signed.{leZ, ≤ℤ-refl}
 use Rattle.lists.specs.Lists.{_∈_}
-use Rattle.lists.proofs.Lists.{length-keep}
+use Rattle.lists.proofs.Appends.{length-keep}
 use Rattle.lists.proofs.Tests.{agree}
 use Rattle.edge.specs.Coordinates.{toℕ, sizedReply, sizeOf}
 use Rattle.symbol.specs.declared.Point.{Point}

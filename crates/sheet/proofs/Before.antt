@@ -8,7 +8,8 @@ use native.Mathlib.Omega.{arith}
 use Rattle.lists.specs.Lists.{_∈_, insert, Rows, none, more}
 use Rattle.lists.proofs.Adjacent.{Adjacent, empty, single, link}
 use Rattle.lists.proofs.Tests.{eqb-reads, leb-reads, ltb-reads, clash, beq-reads, Reads, pass, fail}
-use Rattle.lists.proofs.Lists.{in-cons, in-one, rows-two, rows-all, rows-insert, rows-ext}
+use Rattle.lists.proofs.Lists.{in-cons, in-one}
+use Rattle.lists.proofs.Order.{rows-two, rows-all, rows-insert, rows-ext}
 use Rattle.symbol.specs.declared.Point.{Point}
 use Rattle.sheet.specs.declared.Wire.{Wire}
 use Rattle.sheet.specs.Lines.{EndAt, first, Inside, Follows, Before, turned, next-line, same-line}

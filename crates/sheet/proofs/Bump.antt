@@ -7,7 +7,8 @@ use native.Mathlib.Omega.{arith}
 use lib.ListN.{length}
 use Rattle.lists.specs.Lists.{_∈_, none, more}
 use Rattle.lists.proofs.Tests.{choose, Reads, pass, fail}
-use Rattle.lists.proofs.Lists.{in-cons, in-one, rows-one}
+use Rattle.lists.proofs.Lists.{in-cons, in-one}
+use Rattle.lists.proofs.Order.{rows-one}
 use Rattle.symbol.specs.declared.Point.{Point}
 use Rattle.sheet.specs.declared.Joint.{Joint}
 use Rattle.sheet.specs.Points.{same, Rise}

@@ -7,7 +7,8 @@ use mathlib.Core.Logic.{⊎-elim, inl, inr, _↔_}
 use lib.Dec.{T}
 use Rattle.lists.specs.Lists.{_∈_, any, keep, insert, none}
 use Rattle.lists.proofs.Tests.{test, not-reads, Reads}
-use Rattle.lists.proofs.Lists.{any-reads, keep-all, keep-old, insert-in, in-insert, gather-in, in-gather, rows-keep, rows-insert}
+use Rattle.lists.proofs.Lists.{any-reads, keep-all, keep-old, insert-in, in-insert, gather-in, in-gather}
+use Rattle.lists.proofs.Order.{rows-keep, rows-insert}
 use Rattle.symbol.specs.declared.Point.{Point}
 use Rattle.sheet.specs.declared.Wire.{Wire}
 use Rattle.sheet.specs.declared.Component.{Component}

@@ -8,7 +8,7 @@ use native.Mathlib.Omega.{arith}
 use lib.ListN.{length}
 use Rattle.lists.specs.Lists.{_∈_, gather, none, more}
 use Rattle.lists.proofs.Tests.{decide, choose, ltb-reads}
-use Rattle.lists.proofs.Lists.{rows-all, rows-ext}
+use Rattle.lists.proofs.Order.{rows-all, rows-ext}
 use Rattle.symbol.specs.declared.Point.{Point}
 use Rattle.sheet.specs.declared.Wire.{Wire}
 use Rattle.sheet.specs.declared.Joint.{Joint}

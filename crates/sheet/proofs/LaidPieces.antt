@@ -3,7 +3,8 @@ use mathlib.Core.List.{List, [], _∷_, List·Memᴰ·head as ∈-head, List·Me
 use mathlib.Core.Path.{_≡_, refl, subst}
 use mathlib.Core.Logic.{⊎-elim, inl}
 use Rattle.lists.specs.Lists.{_∈_, insert, Rows, none, more}
-use Rattle.lists.proofs.Lists.{insertAll, insert-in, insert-new, insert-all-in, insert-all-new, insert-all-old, rows-one}
+use Rattle.lists.proofs.Lists.{insertAll, insert-in, insert-new, insert-all-in, insert-all-new, insert-all-old}
+use Rattle.lists.proofs.Order.{rows-one}
 use Rattle.symbol.specs.declared.Point.{Point}
 use Rattle.sheet.specs.declared.Wire.{Wire}
 use Rattle.sheet.specs.Lines.{first, Before}

@@ -7,7 +7,8 @@ use native.Mathlib.Omega.{arith}
 use lib.Dec.{T}
 use Rattle.lists.specs.Lists.{_∈_, keep, Rows}
 use Rattle.lists.proofs.Tests.{test, holds, choose, not-not, same-or-turned}
-use Rattle.lists.proofs.Lists.{keep-old, rows-keep, rows-all, rows-chain}
+use Rattle.lists.proofs.Lists.{keep-old}
+use Rattle.lists.proofs.Order.{rows-keep, rows-all, rows-chain}
 use Rattle.symbol.specs.declared.Point.{Point}
 use Rattle.sheet.specs.declared.Wire.{Wire}
 use Rattle.sheet.specs.Lines.{tip, marks, EndAt, Inside, Follows, high, Before}

@@ -7,7 +7,8 @@ use native.Mathlib.Omega.{arith}
 use lib.ListN.{length}
 use Rattle.lists.specs.Lists.{_∈_, Rows, none, more}
 use Rattle.lists.proofs.Tests.{choose, Reads}
-use Rattle.lists.proofs.Lists.{in-cons, rows-head, rows-tail}
+use Rattle.lists.proofs.Lists.{in-cons}
+use Rattle.lists.proofs.Order.{rows-head, rows-tail}
 use Rattle.symbol.specs.declared.Point.{Point}
 use Rattle.sheet.specs.declared.Wire.{Wire}
 use Rattle.sheet.specs.Lines.{at, tip, Follows, Side, low, high, Before}

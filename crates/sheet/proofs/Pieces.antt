@@ -6,7 +6,8 @@ use mathlib.Core.Logic.{⊎-elim, _⊎_, inl, inr}
 use native.Mathlib.Omega.{arith}
 use Rattle.lists.specs.Lists.{_∈_, Rows, more}
 use Rattle.lists.proofs.Tests.{decide, choose, leb-reads}
-use Rattle.lists.proofs.Lists.{in-cons, in-one, rows-one}
+use Rattle.lists.proofs.Lists.{in-cons, in-one}
+use Rattle.lists.proofs.Order.{rows-one}
 use Rattle.symbol.specs.declared.Point.{Point}
 use Rattle.sheet.specs.declared.Wire.{Wire}
 use Rattle.sheet.specs.Points.{same}

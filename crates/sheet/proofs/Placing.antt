@@ -7,7 +7,8 @@ use native.Mathlib.Omega.{arith}
 use lib.ListN.{length}
 use Rattle.lists.specs.Lists.{_∈_, insert, Rows, none, more}
 use Rattle.lists.proofs.Tests.{choose}
-use Rattle.lists.proofs.Lists.{insert-in, in-insert, length-insert}
+use Rattle.lists.proofs.Lists.{insert-in, in-insert}
+use Rattle.lists.proofs.Appends.{length-insert}
 use Rattle.sheet.specs.declared.Component.{Component}
 use Rattle.sheet.specs.Boxes.{Shares}
 use Rattle.sheet.specs.Parts.{box, ahead, PartFits}

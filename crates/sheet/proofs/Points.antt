@@ -9,7 +9,8 @@ use Rattle.lists.specs.Lists.{_∈_, Rows, any}
 use Rattle.lists.proofs.Adjacent.{Adjacent}
 use Rattle.sheet.specs.Points.{same, Rise, lower, level, rises}
 use Rattle.lists.proofs.Tests.{Reads, reads-as, and-reads, or-reads, eqb-reads, ltb-reads, compare}
-use Rattle.lists.proofs.Lists.{any-reads, rows-chain, chain-rows}
+use Rattle.lists.proofs.Lists.{any-reads}
+use Rattle.lists.proofs.Order.{rows-chain, chain-rows}
 
 pub point-path : {p q : Point} → p .x ≡ q .x → p .y ≡ q .y → p ≡ q
 point-path e f = λ i. record { x = e i; y = f i }

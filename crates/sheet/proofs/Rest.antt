@@ -7,7 +7,8 @@ use mathlib.Core.Logic.{⊎-elim, inl, inr}
 use native.Mathlib.Omega.{arith}
 use Rattle.lists.specs.Lists.{_∈_, Rows}
 use Rattle.lists.proofs.Tests.{decide, not-reads, leb-reads, compare, same-or-turned}
-use Rattle.lists.proofs.Lists.{keep-in, in-keep, rows-keep, rows-two}
+use Rattle.lists.proofs.Lists.{keep-in, in-keep}
+use Rattle.lists.proofs.Order.{rows-keep, rows-two}
 use Rattle.symbol.specs.declared.Point.{Point}
 use Rattle.sheet.specs.declared.Wire.{Wire}
 use Rattle.sheet.specs.Lines.{at, tips, EndAt, meets, Inside, Meets, Side, low, high, Before, next-line, same-line}

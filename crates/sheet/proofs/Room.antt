@@ -9,7 +9,7 @@ use native.Mathlib.Omega.{arith}
 use lib.ListN.{length}
 use Rattle.lists.specs.Lists.{any, keep, insert}
 use Rattle.lists.proofs.Tests.{choose}
-use Rattle.lists.proofs.Lists.{length-keep, length-insert}
+use Rattle.lists.proofs.Appends.{length-keep, length-insert}
 use Rattle.symbol.specs.declared.Point.{Point}
 use Rattle.sheet.specs.declared.Wire.{Wire}
 use Rattle.sheet.specs.declared.Component.{Component}

@@ -7,7 +7,7 @@ use native.Mathlib.Omega.{arith}
 use Rattle.lists.specs.Lists.{Rows}
 use Rattle.lists.proofs.Adjacent.{Adjacent}
 use Rattle.lists.proofs.Tests.{decide, ltb-reads, clash}
-use Rattle.lists.proofs.Lists.{rows-all, rows-both, rows-chain, chain-rows}
+use Rattle.lists.proofs.Order.{rows-all, rows-both, rows-chain, chain-rows}
 use Rattle.sheet.specs.declared.Wire.{Wire}
 use Rattle.sheet.specs.Lines.{Before, turned, next-line, same-line}
 use Rattle.sheet.specs.Wiring.{AllFit}

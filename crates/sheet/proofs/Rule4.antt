@@ -7,7 +7,8 @@ use mathlib.Core.Logic.{⊎-elim, inl, inr, _↔_}
 use native.Mathlib.Omega.{arith}
 use Rattle.lists.specs.Lists.{_∈_, keep, gather, Rows, none, more}
 use Rattle.lists.proofs.Tests.{decide, choose, ltb-reads, beq-reads}
-use Rattle.lists.proofs.Lists.{keep-in, in-keep, gather-in, in-gather, rows-keep, rows-all}
+use Rattle.lists.proofs.Lists.{keep-in, in-keep, gather-in, in-gather}
+use Rattle.lists.proofs.Order.{rows-keep, rows-all}
 use Rattle.symbol.specs.declared.Point.{Point}
 use Rattle.sheet.specs.declared.Wire.{Wire}
 use Rattle.sheet.specs.Points.{same}

@@ -7,7 +7,8 @@ use mathlib.Core.Logic.{⊎-elim, _⊎_, inl, inr}
 use native.Mathlib.Omega.{arith}
 use lib.ListN.{length}
 use Rattle.lists.specs.Lists.{_∈_, keep, gather, Rows, none, more}
-use Rattle.lists.proofs.Lists.{gather-in, in-gather, gather-append}
+use Rattle.lists.proofs.Lists.{gather-in, in-gather}
+use Rattle.lists.proofs.Appends.{gather-append}
 use Rattle.symbol.specs.declared.Point.{Point}
 use Rattle.sheet.specs.declared.Wire.{Wire}
 use Rattle.sheet.specs.Lines.{EndAt, inside, Inside, Before}

@@ -3,7 +3,7 @@ use Prim.Native.Nat.{_+_, _*_, _≤_}
 use mathlib.Core.Path.{_≡_}
 use native.Mathlib.Omega.{arith}
 use lib.ListN.{length, length-append}
-use Rattle.lists.proofs.Lists.{length-gather}
+use Rattle.lists.proofs.Appends.{length-gather}
 use Rattle.sheet.specs.Lines.{ends}
 use Rattle.sheet.specs.Parts.{pads, padsOf}
 use Rattle.sheet.specs.Drawings.{marksOf, joints, tallyOf, Sheet}

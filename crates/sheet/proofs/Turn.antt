@@ -9,7 +9,9 @@ use lib.Dec.{T}
 use lib.ListN.{length, length-map}
 use Rattle.lists.specs.Lists.{_∈_, keep, Rows}
 use Rattle.lists.proofs.Tests.{test, decide, holds, choose, not-reads, and-reads, eqb-reads}
-use Rattle.lists.proofs.Lists.{keep-in, in-keep, keep-none, keep-old, length-parts, rows-keep, rows-map, rows-two, rows-all, rows-ext}
+use Rattle.lists.proofs.Lists.{keep-in, in-keep, keep-none, keep-old}
+use Rattle.lists.proofs.Appends.{length-parts}
+use Rattle.lists.proofs.Order.{rows-keep, rows-map, rows-two, rows-all, rows-ext}
 use Rattle.orientation.specs.Orientations.{rightOf, mirrorOf}
 use Rattle.orientation.proofs.Turns.{right-known, mirror-known}
 use Rattle.symbol.specs.declared.Point.{Point}

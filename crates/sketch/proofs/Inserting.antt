@@ -6,7 +6,7 @@ use native.Mathlib.Numerals.{add-one}
 use native.Mathlib.Omega.{arith}
 use lib.ListN.{length, getD, take, drop, set, drop-of-length-le, length-set}
 use lib.Seq.{drop-cons, drop-set-lt, take-all}
-use Rattle.lists.proofs.Tables.{take-push}
+use Rattle.lists.proofs.Pushes.{take-push}
 use Rattle.sketch.specs.Tables.{pushed, inserted}
 
 module _ {A : Type 0} where
