@@ -5,7 +5,7 @@ ghost use Prim.Native.Nat.{_≤_};
 ghost use lib.ListN.{take};
 ghost use Rattle.sheet.specs.Split;
 ghost use Rattle.sheet.specs.Drawings.{wireRows};
-ghost use Rattle.wires.specs.Tables.{Tabled, Grows, Splits};
+ghost use Rattle.wires.specs.Tables.{Grows, Splits};
 use crate::Grown;
 use crate::lines::along;
 use crate::lines::inside;
