@@ -13,7 +13,7 @@ use tables::put_wires;
 use text::put_byte;
 
 // The tally, each wire, joint and component, and the line that ends them: 53,296 bytes always suffice. Two wrong answers that this
-// rules out: a wire's end told before its start, and an empty label without its space (must-fail/ has more).
+// rules out: a wire's end told before its start (start_and_end_swapped), and an empty label without its space (label_without_space).
 pub fn put_rows(out: &mut [u8], at: usize, t: Tally, d: Drawing) -> usize
     requires { ⌜ Lawful d ⌝ ∗ ⌜ Space at 53296 ⌝ }
     ensures { λ r. ⌜ Puts 53296 (now (out .entry)) at (rowsOf t d) (now (out .exit)) r ⌝ }
