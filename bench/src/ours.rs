@@ -123,7 +123,7 @@ impl Ours {
     /// Twice as many calls take about twice as long: the compiler has left out none.
     pub fn assert_all_made(&self, call: Call, edit: Numbered) {
         let mut times = 64;
-        while self.run(call, edit, times).0 < 4.0 * self.building {
+        while self.run(call, edit, times).0 < (4.0 * self.building).max(2e7) {
             times *= 2;
         }
         let least = |times| (0..ROUNDS).map(|_| self.run(call, edit, times).0).fold(f64::INFINITY, f64::min);
