@@ -16,6 +16,8 @@ use table::Table;
 
 const SIZES: [usize; 4] = [64, 128, 256, 512];
 const SEED: u64 = 9;
+/// How often all is timed, in turns: a slow spell of the machine is longer than one time taken. The least counts.
+const TURNS: usize = 3;
 const EDITS: [(EditKind, &str); 5] = [
     (EditKind::Wire, "wire"),
     (EditKind::Place, "place"),
@@ -26,9 +28,9 @@ const EDITS: [(EditKind, &str); 5] = [
 
 fn main() {
     let quick = std::env::args().any(|word| word == "--quick");
-    let places = if quick { 2 } else { 5 };
+    let (places, turns) = if quick { (2, 1) } else { (5, TURNS) };
     let mut table = Table::default();
-    for size in SIZES {
+    for (turn, size) in (0..turns).flat_map(|turn| SIZES.map(|size| (turn, size))) {
         let mut board = Board::new(size, SEED);
         let script: Vec<Numbered> = board.edits.iter().map(numbered).collect();
         let ours = Ours::new(&script);
@@ -38,7 +40,7 @@ fn main() {
         }
         time_looks(&mut table, size, &board, &ours);
         time_tables(&mut table, size, &mut board, &ours, places);
-        if size == SIZES[0] {
+        if turn == 0 && size == SIZES[0] {
             assert_all_made(&mut board, &ours);
         }
         eprintln!("{size} wires timed, drawn by {} edits", script.len());
@@ -47,9 +49,6 @@ fn main() {
     table.print_times("check, plain", "check");
     time_shapes();
 }
-
-/// How often both forms of the check are timed, in turns: a slow spell of the machine is longer than one time taken.
-const TURNS: usize = 4;
 
 /// Nanoseconds of the plain form of the check and of the fast one, on a lawful drawing.
 fn time_checks(ours: &Ours) -> [f64; 2] {

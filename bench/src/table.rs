@@ -44,12 +44,27 @@ fn shown(time: f64) -> String {
     format!("{time:.places$}")
 }
 
+impl Spread {
+    fn least(self, other: Spread) -> Spread {
+        Spread { median: self.median.min(other.median), worst: self.worst.min(other.worst) }
+    }
+}
+
 impl Table {
+    /// Where a call was timed at that size before, the lesser times count.
     pub fn row(&mut self, name: &str, size: usize, ours: &[f64], theirs: Option<&[f64]>) {
         let cell = Cell { size, ours: spread(ours), theirs: theirs.map(spread) };
-        match self.rows.iter_mut().find(|row| row.name == name) {
-            Some(row) => row.cells.push(cell),
-            None => self.rows.push(Row { name: name.to_string(), cells: vec![cell] }),
+        let at = self.rows.iter().position(|row| row.name == name).unwrap_or_else(|| {
+            self.rows.push(Row { name: name.to_string(), cells: Vec::new() });
+            self.rows.len() - 1
+        });
+        let cells = &mut self.rows[at].cells;
+        match cells.iter_mut().find(|cell| cell.size == size) {
+            Some(before) => {
+                before.ours = before.ours.least(cell.ours);
+                before.theirs = before.theirs.zip(cell.theirs).map(|(a, b)| a.least(b));
+            }
+            None => cells.push(cell),
         }
     }
 
