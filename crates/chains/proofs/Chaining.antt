@@ -5,7 +5,7 @@ use native.Mathlib.Numerals.{add-one}
 use native.Mathlib.Omega.{arith}
 use mathlib.Core.Path.{_≡_, refl, sym, ap, _∙_, subst}
 use mathlib.Core.List.{List}
-use mathlib.Core.Logic.{⊎-elim, _⊎_, inl, inr}
+use mathlib.Core.Logic.{⊎-elim}
 use lib.ListN.{length, getD, take, set, replicate}
 use lib.Seq.{getD-set-same, getD-set-other, getD-take, length-take-le}
 use Rattle.lists.proofs.Tests.{decide, eqb-reads, compare}
@@ -15,6 +15,10 @@ zeros : (n k : ℕ) → _≡_ {A = ℕ} (getD (replicate n 0) k 0) 0
 zeros zero k = refl
 zeros (suc n) zero = refl
 zeros (suc n) (suc k) = zeros n k
+
+-- what holds of the numbers below i, and of i, holds of those up to i
+pub up-to : (P : ℕ → Type 0) {i : ℕ} → ((k : ℕ) → k < i → P k) → P i → (k : ℕ) → k < i + 1 → P k
+up-to P {i} f p k h = ⊎-elim (f k) (⊎-elim (λ (q : k ≡ i). subst P (sym q) p) (λ (l : i < k). absurd (omega arith))) (compare k i)
 
 -- the first i numbers of l are chained
 pub record Building (key : ℕ → ℕ) (l : List ℕ) (i : ℕ) (last before : List ℕ) : Type 0 where
@@ -46,10 +50,10 @@ pub build-next : {key : ℕ → ℕ} {l last before : List ℕ} {i : ℕ} (k : �
 build-next {key} {l} {last} {before} {i} k built e hl hk hb = record {
   chained = record {
     met = λ j h. subst (λ (x : ℕ). Met new (getD (set last k (i + 1)) (key x) 0) j) (sym (getD-take (i + 1) l j 0 (omega (arith, size)))) (each j (omega (arith, size)));
-    falls = λ j h. ⊎-elim
-        (λ (b : j < i). subst (λ (x : ℕ). x ≤ j) (sym (getD-set-other before i j (getD last k 0) 0 (λ q. omega arith))) (falls j b))
-        (λ (b : j ≡ i). subst (λ (x : ℕ). getD new x 0 ≤ x) (sym b) (subst (λ (x : ℕ). x ≤ i) (sym (getD-set-same before i (getD last k 0) 0 hb)) (starts k)))
-        (up-to j (omega (arith, size)));
+    falls = λ j h. up-to (λ (x : ℕ). getD new x 0 ≤ x)
+        (λ m b. subst (λ (x : ℕ). x ≤ m) (sym (getD-set-other before i m (getD last k 0) 0 (λ q. omega arith))) (falls m b))
+        (subst (λ (x : ℕ). x ≤ i) (sym (getD-set-same before i (getD last k 0) 0 hb)) (starts k))
+        j (omega (arith, size));
     starts = λ m. ⊎-elim
         (λ (q : m ≡ k). subst (λ (x : ℕ). getD (set last k (i + 1)) x 0 ≤ length (take (i + 1) l)) (sym q) (omega (arith, getD-set-same last k (i + 1) 0 hk, size)))
         (λ (q : m ≡ k → ⊥). omega (arith, getD-set-other last k m (i + 1) 0 q, starts m, size))
@@ -75,9 +79,6 @@ build-next {key} {l} {last} {before} {i} k built e hl hk hb = record {
     starts : (m : ℕ) → getD last m 0 ≤ i
     starts m = omega (arith, c .starts m, old)
 
-    up-to : (j : ℕ) → j < i + 1 → (j < i) ⊎ (j ≡ i)
-    up-to j h = ⊎-elim inl (⊎-elim inr (λ (g : i < j). absurd (omega arith))) (compare j i)
-
     -- a number before: by the chain as it was, or from the new front on
     before-it : (j : ℕ) → j < i → Met new (getD (set last k (i + 1)) (key (getD l j 0)) 0) j
     before-it j h =
@@ -92,4 +93,4 @@ build-next {key} {l} {last} {before} {i} k built e hl hk hb = record {
     it = subst (λ (x : ℕ). Met new x i) (sym (ap (λ (x : ℕ). getD (set last k (i + 1)) x 0) (sym e) ∙ getD-set-same last k (i + 1) 0 hk ∙ add-one i)) here
 
     each : (j : ℕ) → j < i + 1 → Met new (getD (set last k (i + 1)) (key (getD l j 0)) 0) j
-    each j h = ⊎-elim (before-it j) (λ (q : j ≡ i). subst (λ (x : ℕ). Met new (getD (set last k (i + 1)) (key (getD l x 0)) 0) x) (sym q) it) (up-to j h)
+    each = up-to (λ (x : ℕ). Met new (getD (set last k (i + 1)) (key (getD l x 0)) 0) x) before-it it

@@ -45,7 +45,7 @@ pub fn chain(codes: [u64; 1408], n: usize) -> Index
     out
 }
 
-// Where the number is among the first n, or n.
+// Where the number is among the first n, or n. Not where another one is (another_number_found).
 pub fn place_of(
     codes: &[u64; 1408],
     n: usize,
@@ -68,7 +68,7 @@ pub fn place_of(
     n
 }
 
-// The number is one of the first n.
+// The number is one of the first n. Not one that is none of them (missing_number_found).
 pub fn is_in(
     codes: &[u64; 1408],
     n: usize,

@@ -23,6 +23,7 @@ use Rattle.sheet.specs.Drawings.{zeroJoint, jointRows}
 use Rattle.sheet.proofs.Points.{same-reads, rise-self}
 use Rattle.sheet.proofs.Numbers.{number-in, number-append, number-length}
 use Rattle.chains.specs.Chains.{Place}
+use Rattle.chains.proofs.Chaining.{up-to}
 use Rattle.joints.specs.Keys.{spot, KeysOf}
 use Rattle.joint_check.specs.Meetings.{MetBy, CountsAgree}
 
@@ -114,9 +115,6 @@ agree-next {rows} {counts} {i} g n e = record {
   met = up-to (λ j. getD counts j 0 ≢ 0) (g .met) n;
   same = up-to (λ j. getD counts j 0 ≡ getD rows j zeroJoint .count) (g .same) e;
 }
-  where
-    up-to : (P : ℕ → Type 0) → ((k : ℕ) → k < i → P k) → P i → (k : ℕ) → k < i + 1 → P k
-    up-to P f p k h = ⊎-elim (f k) (⊎-elim (λ (q : k ≡ i). subst P (sym q) p) (λ (l : i < k). absurd (omega arith))) (compare k i)
 
 pub agree-end : {rows : List Joint} {counts : List ℕ} {i : ℕ} (n : ℕ) → CountsAgree rows i counts → i ≡ n → CountsAgree rows n counts
 agree-end {rows} {counts} n g e = subst (λ (k : ℕ). CountsAgree rows k counts) e g

@@ -90,7 +90,8 @@ fn counts_agree(js: Joints, counts: [u16; 1408]) -> bool
     true
 }
 
-// Only rows that list each point with a wire end or pad once, with the number of both, and nothing else, pass.
+// Only rows that list each point with a wire end or pad once, with the number of both, and nothing else, pass. Two wrong answers that this
+// rules out: a row with a wrong count passes (wrong_count_listed), and a row where nothing lies (row_of_no_point_listed).
 pub fn joints_listed(js: Joints, ws: Wires, pads: Points) -> bool
     requires { ⌜ (js .count ≤ 1408) × (Rising (jointRows js) × ((ws .count ≤ 512) × (pads .count ≤ 384))) ⌝ }
     ensures { λ r. ⌜ (r ≡ true → Rule6 (jointRows js) (marks (wireRows ws) (pointRows pads))) ⌝ }
