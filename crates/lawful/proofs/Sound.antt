@@ -26,7 +26,7 @@ use Rattle.sheet.proofs.Rules.{wired-rules}
 use Rattle.wires.specs.declared.Points.{Points}
 use Rattle.wires.specs.Tables.{pointRows}
 use Rattle.limits.specs.Limits.{check1}
-use Rattle.limits.proofs.Decides.{reads1}
+use Rattle.limits.proofs.Decides.{sized-behind, reads1}
 use Rattle.lawful.specs.Looks.{before, Runs}
 use Rattle.lawful.proofs.Ordered.{ordered}
 use Rattle.lawful.proofs.Seen.{none-inside, held-apart}
@@ -81,7 +81,7 @@ module _ (d : Drawing) (z : Sized d) (one : check1 d ≡ true) (pads : Points) w
   all-sound {b} {c} {e} f p q r w t =
       let k = holds (and-reads (true-reads b) (and-reads (true-reads c) (true-reads e))) (subst T (sym t) tt) in
       let rise : T (links ahead (s .parts)) = subst T (sym (sym q ∙ k .0)) tt in
-      let first = holds (reads1 d z) (subst T (sym one) tt) in
+      let first = holds (reads1 d (sized-behind d z)) (subst T (sym one) tt) in
       let j = rules-6-7 (jointRows (d .joints)) (marksOf s) .1 (p ∙ ap (λ (ps : List Point). jointsOf (marks (s .wires) ps)) f) in
       let v = wired-rules (s .wires) (padsOf (s .parts)) .0 (subst (Wired (s .wires)) f (w (k .1 .1) (first .wires-fit))) in
       record {

@@ -90,15 +90,25 @@ component-reads c = reads-as
     inside-reads : (n : ℕ) → Reads ((200 ≤ n) × (n ≤ 11800)) (insideOf n)
     inside-reads n = and-reads (leb-reads 200 n) (leb-reads n 11800)
 
-pub reads1 : (d : Drawing) → Sized d → Reads (Rule1 d) (check1 d)
+-- the labels of the rows behind the count have their declared length: those of a drawing that code holds, and those of zero rows
+abbrev pub LabelsBehind : Drawing → Type 0
+LabelsBehind d = (c : Component) → c ∈ drop (d .components .count) (d .components .rows) → length (c .label) ≡ 16
+
+pub sized-behind : (d : Drawing) → Sized d → LabelsBehind d
+sized-behind d z c m = z .labels c (in-drop (d .components .count) (d .components .rows) m)
+
+pub blank-behind : (d : Drawing) → Rule1 d → LabelsBehind d
+blank-behind d r c m = ap (λ (b : Component). length (b .label)) (r .components-blank c m)
+
+pub reads1 : (d : Drawing) → LabelsBehind d → Reads (Rule1 d) (check1 d)
 unfolding check1 rooms blanks limits
-reads1 d z = reads-as (
+reads1 d long = reads-as (
   λ t. record {
     wire-room = t .0 .0;
     component-room = t .0 .1 .0;
     joint-room = t .0 .1 .1;
     wires-blank = t .1 .0 .0;
-    components-blank = λ c m. zeros-is c (z .labels c (in-drop (d .components .count) (d .components .rows) m)) (t .1 .0 .1 .0 c m);
+    components-blank = λ c m. zeros-is c (long c m) (t .1 .0 .1 .0 c m);
     joints-blank = t .1 .0 .1 .1;
     wires-fit = t .1 .1 .0;
     components-fit = t .1 .1 .1;

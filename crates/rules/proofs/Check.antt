@@ -2,7 +2,7 @@
 use Prim.Native.Nat.{ℕ, suc, _+_, _<_}
 use mathlib.Core.Bool.{Bool, true, false, cond}
 use mathlib.Core.List.{List, [], _∷_, List·Memᴰ·head as ∈-head, List·Memᴰ·tail as ∈-tail, List·Memᴰ·not-nil as ∈-nil}
-use mathlib.Core.Path.{_≡_, refl, sym, subst}
+use mathlib.Core.Path.{_≡_, refl, sym, ap, subst}
 use mathlib.Core.Logic.{_↔_}
 use native.Mathlib.Nat.{zero-add}
 use native.Mathlib.Omega.{arith}
@@ -15,7 +15,7 @@ use Rattle.sheet.specs.Parts.{padsOf, touches}
 use Rattle.sheet.specs.Drawings.{listsOf, jointRows, marksOf, Sized}
 use Rattle.sheet.specs.Rules.{Rule5, Lawful}
 use Rattle.sheet.proofs.Parts.{touches-reads}
-use Rattle.limits.proofs.Decides.{reads1}
+use Rattle.limits.proofs.Decides.{LabelsBehind, sized-behind, blank-behind, reads1}
 use Rattle.row_order.proofs.Decides.{reads2, reads7}
 use Rattle.rules.specs.declared.Checked.{Checked}
 use Rattle.rules.specs.declared.Touching.{Touching}
@@ -94,44 +94,51 @@ module _ {cs : List Component} {Ps : List (Type 0)} where
 told-lawful : {cs : List Component} → Told cs 8 [] (broken 0)
 told-lawful = record { rule = sound; pair = λ e. absurd (omega arith); other = λ n. (refl, refl) }
 
+-- ---- the drawing
+
+-- what the check tells is right
+right : (d : Drawing) → LabelsBehind d → Right d (checkOf d)
+unfolding checkOf fromRule5
+right d long =
+    let s = listsOf d in
+    let ps = padsOf (s .parts) in
+    let js = jointRows (d .joints) in
+    let t : Told (s .parts) 1 (seven d) (checkOf d) =
+    told (reads1 d long) (λ e. omega arith) (told (reads2 (s .wires)) (λ e. omega arith) (told (reads3 (s .wires) ps) (λ e. omega arith) (told (reads4 (s .wires) ps) (λ e. omega arith)
+    (told-pair (pairs 0 (s .parts)) (told (reads6 js (marksOf s)) (λ e. omega arith) (told (reads7 s js) (λ e. omega arith) told-lawful)))))) in
+    record { rule = t .rule; pair = t .pair; other = t .other }
+
+-- each of the statements holds
+abbrev Every : List (Type 0) → Type 0
+Every [] = Unit {0}
+Every (P ∷ Ps) = P × Every Ps
+
+first-none : {k n : ℕ} {Ps : List (Type 0)} → First k Ps n → 0 < k → n ≡ 0 → Every Ps
+first-none sound l e = tt
+first-none (fails f) l e = absurd (omega arith)
+first-none (holds p t) l e = (p, first-none t (omega arith) e)
+
+every-first : {k n : ℕ} {Ps : List (Type 0)} → First k Ps n → Every Ps → n ≡ 0
+every-first sound e = refl
+every-first (fails f) e = absurd (f (e .0))
+every-first (holds p t) e = every-first t (e .1)
+
+-- "A lawful drawing gives rule 0 and rows 0, 0."
+pub lawful-none : {d : Drawing} → Lawful d → broken 0 ≡ checkOf d
+lawful-none {d} l =
+    let t = right d (blank-behind d (l .rule1)) in
+    let e = every-first (t .rule) (l .rule1, (l .rule2, (l .rule3, (l .rule4, (l .rule5, (l .rule6, (l .rule7, tt))))))) in
+    let r = t .other (λ f. omega arith) in
+    sym (λ i. record { rule = e i; first = r .0 i; second = r .1 i })
+
+-- of a drawing that code holds
 module _ (d : Drawing) (z : Sized d) where
-  -- what the check tells is right
   pub check-right : Right d (checkOf d)
-  unfolding checkOf fromRule5
-  check-right =
-      let s = listsOf d in
-      let ps = padsOf (s .parts) in
-      let js = jointRows (d .joints) in
-      let t : Told (s .parts) 1 (seven d) (checkOf d) =
-      told (reads1 d z) (λ e. omega arith) (told (reads2 (s .wires)) (λ e. omega arith) (told (reads3 (s .wires) ps) (λ e. omega arith) (told (reads4 (s .wires) ps) (λ e. omega arith)
-      (told-pair (pairs 0 (s .parts)) (told (reads6 js (marksOf s)) (λ e. omega arith) (told (reads7 s js) (λ e. omega arith) told-lawful)))))) in
-      record { rule = t .rule; pair = t .pair; other = t .other }
-
-  -- each of the statements holds
-  abbrev Every : List (Type 0) → Type 0
-  Every [] = Unit {0}
-  Every (P ∷ Ps) = P × Every Ps
-
-  first-none : {k n : ℕ} {Ps : List (Type 0)} → First k Ps n → 0 < k → n ≡ 0 → Every Ps
-  first-none sound l e = tt
-  first-none (fails f) l e = absurd (omega arith)
-  first-none (holds p t) l e = (p, first-none t (omega arith) e)
-
-  every-first : {k n : ℕ} {Ps : List (Type 0)} → First k Ps n → Every Ps → n ≡ 0
-  every-first sound e = refl
-  every-first (fails f) e = absurd (f (e .0))
-  every-first (holds p t) e = every-first t (e .1)
+  check-right = right d (sized-behind d z)
 
   -- a lawful drawing gives rule 0, and only a lawful one does
   pub check-lawful : (checkOf d .rule ≡ 0) ↔ Lawful d
   check-lawful = (
     λ e. let t = first-none (check-right .rule) (omega arith) e in record { rule1 = t .0; rule2 = t .1 .0; rule3 = t .1 .1 .0; rule4 = t .1 .1 .1 .0; rule5 = t .1 .1 .1 .1 .0; rule6 = t .1 .1 .1 .1 .1 .0; rule7 = t .1 .1 .1 .1 .1 .1 .0 },
-    λ r. every-first (check-right .rule) (r .rule1, (r .rule2, (r .rule3, (r .rule4, (r .rule5, (r .rule6, (r .rule7, tt))))))),
+    λ l. sym (ap (λ (v : Checked). v .rule) (lawful-none l)),
   )
-
-  -- "A lawful drawing gives rule 0 and rows 0, 0."
-  pub lawful-none : Lawful d → broken 0 ≡ checkOf d
-  lawful-none l =
-      let e = check-lawful .1 l in
-      let r = check-right .other (λ f. omega arith) in
-      sym (λ i. record { rule = e i; first = r .0 i; second = r .1 i })

@@ -1,6 +1,5 @@
 -- A drawing that passes is lawful; the plain check tells of any other.
 use mathlib.Core.Path.{_∙_}
-use Rattle.sheet.proofs.Owned.{owned}
 use Rattle.rules.proofs.Check.{lawful-none}
 use borrow.Author.Needs.{needs}
 use Rattle.lawful.proofs.check.Statement.{statement}
@@ -13,7 +12,7 @@ broken-rule-requires : tie.Need-broken-rule-requires
 broken-rule-requires c κs = search needs
 
 returns : tie.Need-returns
-returns c = c .broken-rule .ensures ∙ lawful-none (c .before .before .before .args .d) (owned (c .before .before .before .args .d) _ (c .before .before .before .good .0 .1 .1)) (c .before .before .all-right .ensures (c .before .if1 .taken))
+returns c = c .broken-rule .ensures ∙ lawful-none (c .before .before .all-right .ensures (c .before .if1 .taken))
 
 check-plainly-requires : tie.Need-check-plainly-requires
 check-plainly-requires c κs = search needs
