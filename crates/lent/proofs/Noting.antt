@@ -49,7 +49,7 @@ module _ {M : Type 1} {𝓤 : URA M} {H : Heap 𝓤} {A : Atoms 𝓤} {K : Type 
   found t {i} {st} e w = record { go = λ Kt g. subst (λ (s : Spot 𝓤 H). ent 𝓤 (⋆ 𝓤 H A Γ) (walk 𝓤 H E s st Kt)) (sym e) (w .go Kt g) }
 
 -- what `noted` is under each outcome of the test
-taken : (h : Tally) (e : Edited) → Holds (eqb (e .reply) 0) → e .tally ≡ noted h e
+pub taken : (h : Tally) (e : Edited) → Holds (eqb (e .reply) 0) → e .tally ≡ noted h e
 unfolding noted
 taken h e p = choose (test (eqb (e .reply) 0)) (λ (x : Tally). e .tally ≡ x) (λ _. refl) (λ n. absurd (n p))
 

@@ -1,5 +1,5 @@
--- What edits do not do: lose more than they hit, or anything by a mirror; find no room for a delete; change a drawing by a wire drawn
--- again or of zero length, or where nothing is met.
+-- What edits do not do: lose more than they hit; find no room for a delete; change a drawing by a wire of zero length, or where nothing is
+-- met.
 use Prim.Native.Nat.{ℕ, _≤_, _<_}
 use native.Mathlib.Omega.{arith}
 use mathlib.Core.Bool.{Bool, true, false, _&&_, not}
@@ -18,42 +18,34 @@ use Rattle.sheet.specs.declared.Component.{Component}
 use Rattle.sheet.specs.declared.Drawing.{Drawing}
 use Rattle.sheet.specs.declared.Tally.{Tally}
 use Rattle.sheet.specs.Parts.{padsOf, turnedRight, mirrored}
-use Rattle.sheet.specs.Drawings.{Sheet, Sized, listsOf, drawn, tallyOf}
+use Rattle.sheet.specs.Drawings.{Sheet, Sized, listsOf, tallyOf}
 use Rattle.sheet.proofs.Wiring.{Roomy}
 use Rattle.sheet.specs.Rules.{Lawful}
 use Rattle.sheet.specs.Edits.{wire, remove, delete, meetsPart, meetsWire, hits, turnRight, mirror}
-use Rattle.sheet.proofs.Rules.{lawful-good, lawful-room, lawful-drawn, drawn-lists}
-use Rattle.sheet.proofs.Edits.{wire-again, remove-nothing}
+use Rattle.sheet.proofs.Rules.{lawful-good, lawful-room, lawful-drawn}
+use Rattle.sheet.proofs.Edits.{remove-nothing}
 use Rattle.sheet.proofs.Run.{drawn-idle}
 use Rattle.sheet.proofs.Room.{remove-no-longer}
-use Rattle.sheet.proofs.Turn.{turn-lost, turn-nothing, mirror-safe}
-use Rattle.asked.specs.Asked.{ranged, wireAt, pointAt, askedWire}
-use Rattle.asked.proofs.Within.{wire-drawable}
+use Rattle.sheet.proofs.Turn.{turn-lost, turn-nothing}
+use Rattle.asked.specs.Asked.{ranged, wireAt, pointAt}
 use Rattle.edits.specs.Making.{quiet}
 use Rattle.redraw.specs.declared.Edited.{Edited}
 use Rattle.redraw.specs.declared.pointer.Act.{Act}
 use Rattle.redraw.specs.declared.pointer.Act.the-variants.{Delete, TurnRight, Mirror}
 use Rattle.redraw.specs.Acts.{acted}
-use Rattle.redraw.specs.Calls.{refusedUnless, edited, addWire, pointed, deleteAt, mirrorAt}
+use Rattle.redraw.specs.Calls.{refusedUnless, edited, addWire, pointed, deleteAt}
 use Rattle.redraw.proofs.Finishing.{edited-room}
-use Rattle.redraw.proofs.Asking.{wire-decides, pointer-decides}
+use Rattle.redraw.proofs.Asking.{pointer-decides}
 use Rattle.redraw.proofs.Laws.{by-reply, by-room}
 
 abbrev Outweighed : Edited → Type 0
 Outweighed e = e .lost ≤ e .hit
-
-abbrev Lossless : Edited → Type 0
-Lossless e = e .lost ≡ 0
 
 abbrev NotFull : Edited → Type 0
 NotFull e = e .reply ≡ 7 → ⊥
 
 below-seven : (n : ℕ) → n < 7 → n ≡ 7 → ⊥
 below-seven n h e = omega arith
-
--- the wire drawn again changes nothing
-abbrev Again : Bool → ℤ → ℤ → ℤ → Tally → Edited → Type 0
-Again v a s e u r = r .reply ≡ 0 → addWire (r .drawing) v a s e u ≡ r
 
 module _ {d : Drawing} (l : Lawful d) (t : Tally) where
   -- ---- hit and lost
@@ -68,12 +60,6 @@ module _ {d : Drawing} (l : Lawful d) (t : Tally) where
   pub act-lost : (a : Act) (x y n : ℤ) → pointed d x y n t (λ p m. acted a p m (listsOf d)) .lost ≤ pointed d x y n t (λ p m. acted a p m (listsOf d)) .hit
   act-lost a x y n =
       by-reply Outweighed (pointer-decides d x y n t (λ p m. acted a p m (listsOf d)) refl) (λ f. omega arith) (λ z. by-room Outweighed (acted a _ _ (listsOf d)) (omega arith) (λ r. acted-lost a _ _ (listsOf d)))
-
-  -- "Hit and lost are 0 for wire, place and delete"; and a mirror loses nothing
-  pub mirror-keeps : (x y n : ℤ) → mirrorAt d x y n t .lost ≡ 0
-  unfolding mirrorAt
-  mirror-keeps x y n =
-      by-reply Lossless (pointer-decides d x y n t (λ p m. mirror p m (listsOf d)) refl) (λ f. refl) (λ z. by-room Lossless (mirror _ _ (listsOf d)) refl (λ r. mirror-safe _ _ (listsOf d) (lawful-good l)))
 
   -- ---- a delete always has room
 
@@ -94,19 +80,6 @@ module _ {d : Drawing} (l : Lawful d) (t : Tally) where
       go true true e r = r
       go true false e r = below-seven 3 (omega arith)
       go false b e r = below-seven 1 (omega arith)
-
-  -- ---- a wire drawn again
-
-  pub wire-twice : (v : Bool) (a s e : ℤ) (u : Tally) → addWire d v a s e t .reply ≡ 0 → addWire (addWire d v a s e t .drawing) v a s e u ≡ addWire d v a s e t
-  wire-twice v a s e u = by-reply (Again v a s e u) (wire-decides d v a s e t refl) (λ f z. absurd (f z)) (λ k.
-      let n = askedWire v a s e .wire in
-      let g = lawful-good l in
-      let f = wire-drawable v a s e refl k in
-      by-room (Again v a s e u) (quiet (wire n (listsOf d))) (λ z. absurd (omega arith)) (λ r z.
-      sym (wire-decides (drawn (wire n (listsOf d))) v a s e u refl .makes k)
-      ∙ ap (λ (x : Sheet). edited (drawn (wire n (listsOf d))) u (quiet (wire n x))) (drawn-lists (wire n (listsOf d)))
-      ∙ ap (λ (x : Sheet). edited (drawn (wire n (listsOf d))) u (quiet x)) (wire-again n (listsOf d) f g)
-      ∙ edited-room (drawn (wire n (listsOf d))) u (quiet (wire n (listsOf d))) r))
 
   -- ---- nothing changes
 
