@@ -37,7 +37,8 @@ fn laid(t: Wires, run: Wire, n: Wire, pads: Points) -> Grown
     cut::cut_rows(mid, t, p, m, n, &marks)
 }
 
-// The wire edit.
+// The wire edit. Two wrong answers that this rules out: a run cut at its own ends where no joint stands, so that a wire traced in part
+// falls in three (cut_at_its_own_ends), and one not cut at a pad under it (pads_do_not_stand).
 pub fn add_wire(ws: Wires, n: Wire, pads: Points) -> Grown
     requires { ⌜ (ws .count ≤ 512) × ((pads .count ≤ 384) × (n .end ≤ 12000)) ⌝ }
     ensures { λ r. ⌜ Grows (Run.layWire n (wireRows ws) (pointRows pads)) r ⌝ }

@@ -80,6 +80,7 @@ pub fn turn_right(ws: Wires, cs: Components, p: Point, size: u16) -> Made
     turn(ws, cs, p, size, true)
 }
 
+// Not the turn's orientation, with which one of two neighbours may be lost (mirror_takes_the_turn).
 pub fn mirror(ws: Wires, cs: Components, p: Point, size: u16) -> Made
     requires { ⌜ Sound ws cs × Making.Pointed p size ⌝ }
     ensures { λ r. ⌜ r ≡ Making.made (Edits.mirror p size (sheetOf ws cs)) ⌝ }
