@@ -1,6 +1,6 @@
-// Document 01's examples through the public calls, and what only calls can show. `#` begins an example, what stands behind `> ` is a
-// script line, and the lines up to `.` are what `oracle rows` prints for it. Of the full drawings, which are made by hand, only the
-// answer and the tally are printed; the tally stays at the zeros that were lent until an edit is accepted.
+// Examples of documents 01 and 02 through the public calls, and what only calls can show. `#` begins an example, what stands behind
+// `> ` is a script line, and the lines up to `.` are what `oracle rows` prints for it. Of the full drawings, which are made by hand, only
+// the answer and the tally are printed; the tally stays at the zeros that were lent until an edit is accepted.
 mod calls;
 mod drawings;
 mod print;
@@ -49,6 +49,24 @@ fn edits() {
     run(empty(), b"p 1 0 0 0\nd 51 0 0\nr 0 101 0\nm 0 -101 0");
 }
 
+// Document 02, P14: a wire traced as it was drawn and in part, through a crossing that it joined, over a pad; contacts mirrored side by
+// side
+fn traced() {
+    run(empty(), b"h 0 0 100\nh 0 0 100\nh 0 20 50\nh 0 20 50");
+    run(
+        empty(),
+        b"h 0 0 100\nv 50 -40 40\nh 0 50 60\nh 0 50 60\nv 50 -40 40",
+    );
+    run(
+        empty(),
+        b"p 1 0 0 0\nh -100 -200 200\nh -100 -200 200\nh -100 -20 20",
+    );
+    run(
+        empty(),
+        b"h 100 -100 200\np 1 0 0 0 K1\np 1 0 101 0 K2\np 1 1 300 0 K3\nm 0 0 1000\nm 0 0 60",
+    );
+}
+
 // "Nets and the list", "Against the Rust"
 fn nets() {
     run(
@@ -89,6 +107,7 @@ fn order() {
 fn main() {
     board();
     edits();
+    traced();
     nets();
     order();
     calls::damaged();
