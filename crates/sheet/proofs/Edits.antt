@@ -17,11 +17,12 @@ use Rattle.sheet.specs.Boxes.{Shares}
 use Rattle.sheet.specs.Parts.{position, box, pads, padsOf, touches, ahead, PartFits}
 use Rattle.sheet.specs.Drawings.{emptySheet, Sheet}
 use Rattle.sheet.specs.Edits.{placeOne, wire, remove, delete}
+use Rattle.sheet.specs.LiesOn.{LiesOn}
 use Rattle.sheet.proofs.Points.{rises-reads, rise-trans, rise-back}
 use Rattle.sheet.proofs.Wiring.{Drawable, Good, wired-pads}
 use Rattle.sheet.proofs.SplitWired.{split-wired}
 use Rattle.sheet.proofs.Merge.{clean-keep, merge-wired, merge-same}
-use Rattle.sheet.proofs.Run.{drawn-wired, drawn-again}
+use Rattle.sheet.proofs.Run.{drawn-wired, drawn-again, drawn-traced}
 use Rattle.sheet.proofs.Boxes.{shares-mirror}
 use Rattle.sheet.proofs.Parts.{touches-reads, near}
 
@@ -52,6 +53,11 @@ module _ (n : Wire) (s : Sheet) (fit : Drawable n) (good : Good s) where
   pub wire-again : wire n (wire n s) ≡ wire n s
   unfolding wire
   wire-again = ap (λ ws. record { wires = ws; parts = s .parts }) (drawn-again n (s .wires) (padsOf (s .parts)) fit (good .wires))
+
+  -- nor does it over wires that are there
+  pub wire-traced : LiesOn (s .wires) n → wire n s ≡ s
+  unfolding wire
+  wire-traced t = ap (λ ws. record { wires = ws; parts = s .parts }) (drawn-traced n (s .wires) (padsOf (s .parts)) fit (good .wires) t)
 
 -- ---- place
 

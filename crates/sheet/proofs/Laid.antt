@@ -1,10 +1,11 @@
 -- What the wire edit leaves: pieces of the run and of the wires that stood before. Where the ends come from.
+use Prim.Native.Nat.{ℕ, _≤_, _<_}
 use mathlib.Core.List.{List}
 use mathlib.Core.Path.{_≡_, subst}
 use mathlib.Core.Logic.{⊎-elim, _⊎_, inl, inr}
 use native.Mathlib.Omega.{arith}
 use Rattle.lists.specs.Lists.{_∈_, insert, Rows}
-use Rattle.lists.proofs.Lists.{keep-in, in-keep, insert-in}
+use Rattle.lists.proofs.Lists.{keep-in, in-keep, insert-in, insert-new}
 use Rattle.symbol.specs.declared.Point.{Point}
 use Rattle.sheet.specs.declared.Wire.{Wire}
 use Rattle.sheet.specs.Lines.{at, tips, marks, EndAt, first, Ends, Inside, Meets, Side, Before}
@@ -13,7 +14,7 @@ use Rattle.sheet.specs.Wiring.{AllFit}
 use Rattle.sheet.proofs.Lines.{On, on-reads, same-dir, tips-in, HasEnd, marks-in, in-marks}
 use Rattle.sheet.proofs.Before.{insert-order}
 use Rattle.sheet.proofs.Pieces.{piece-end, Within, Piece}
-use Rattle.sheet.proofs.Split.{all-from, all-clean, all-order}
+use Rattle.sheet.proofs.Split.{all-from, all-clean, all-span, all-order}
 use Rattle.sheet.proofs.Reach.{Reached}
 use Rattle.sheet.proofs.Rest.{runOf, restOf, reach, run-fits, rest-in, rest-fits, rest-order, rest-apart, Draws}
 
@@ -59,6 +60,11 @@ module _ (E : Draws) where
   pub laid-order : Rows Before (laidOf E)
   unfolding layWire lay
   laid-order = all-order (cutsOf E) (insert-order (run-fits E) (rest-fits E) (rest-apart E) (rest-order E))
+
+  -- each stretch of the run is one of a piece of it
+  pub run-span : (a : ℕ) → runOf E .start ≤ a → a < runOf E .end → (v : Wire) × v ∈ laidOf E × ((v .start ≤ a) × (a < v .end)) × Piece (cutsOf E) (runOf E) v
+  unfolding layWire lay
+  run-span a x y = all-span (cutsOf E) (insert-new first (runOf E) (restOf E)) a x y
 
   -- ---- ends
 

@@ -1,18 +1,22 @@
--- After the wire edit no wire end and no pad lies inside a wire: a mark inside the run is a cut, and none is inside the rest.
+-- After the wire edit no wire end and no pad lies inside a wire: a mark inside the run is a cut, and none is inside the rest, which stays
+-- as it is.
 use Prim.Native.Nat.{ℕ, _≤_, _<_}
 use mathlib.Core.Path.{_≡_}
 use mathlib.Core.Logic.{⊎-elim, _⊎_, inl, inr}
 use native.Mathlib.Omega.{arith}
 use Rattle.lists.specs.Lists.{_∈_}
 use Rattle.lists.proofs.Tests.{decide, leb-reads}
+use Rattle.lists.proofs.Lists.{insert-old}
 use Rattle.symbol.specs.declared.Point.{Point}
 use Rattle.sheet.specs.declared.Wire.{Wire}
-use Rattle.sheet.specs.Lines.{along, across, marks, Inside, Meets, low, high}
+use Rattle.sheet.specs.Lines.{along, across, marks, first, Inside, Meets, low, high}
+use Rattle.sheet.specs.Run.{lay, layWire}
 use Rattle.sheet.proofs.Lines.{On, same-dir, end-on, inside-end, HasEnd, marks-in, in-marks}
-use Rattle.sheet.proofs.Pieces.{within-inside, Within, Piece}
+use Rattle.sheet.proofs.Pieces.{within-inside, piece-uncut, Within, Piece}
+use Rattle.sheet.proofs.Split.{all-untouched}
 use Rattle.sheet.proofs.Reach.{Reached}
 use Rattle.sheet.proofs.Rest.{runOf, restOf, reach, rest-in, rest-clean, Draws}
-use Rattle.sheet.proofs.Laid.{laidOf, cutsOf, in-cuts, laid-in, laid-clean, Spot, laid-spot, Old, spot-old}
+use Rattle.sheet.proofs.Laid.{laidOf, cutsOf, cuts-in, in-cuts, laid-in, laid-clean, Spot, laid-spot, Old, spot-old}
 
 module _ (E : Draws) where
   -- a point's place along the new wire
@@ -57,6 +61,17 @@ module _ (E : Draws) where
       go : Old E q → ⊥
       go (inl x) = let k = rest-in E m in E .law .clean .clear q x (k .0) (k .1) (within-inside (k .3 .within) i)
       go (inr e) = rest-clean E m e i
+
+  -- the cuts do not touch what was there before the run
+  rest-untouched : {q : Point} {w : Wire} → w ∈ restOf E → q ∈ cutsOf E → Inside q w → ⊥
+  rest-untouched m j i = rest-clear (inl (cuts-in E j .0)) m i
+
+  pub rest-piece : {w v : Wire} → w ∈ restOf E → Piece (cutsOf E) w v → v ≡ w
+  rest-piece m p = piece-uncut p (λ q j i. rest-untouched m j i)
+
+  pub rest-laid : (v : Wire) → v ∈ restOf E → v ∈ laidOf E
+  unfolding layWire lay
+  rest-laid v m = all-untouched (cutsOf E) (insert-old first (runOf E) m) (λ q j i. rest-untouched m j i)
 
   pub laid-clear : (q : Point) → q ∈ marks (laidOf E) (E .pads) → (v : Wire) → v ∈ laidOf E → Inside q v → ⊥
   laid-clear q j v m i = ⊎-elim

@@ -16,7 +16,7 @@ use Rattle.sheet.proofs.Pieces.{whole, apart-within, Piece}
 use Rattle.sheet.proofs.Split.{split-from, split-to, all-from, all-order}
 use Rattle.sheet.proofs.Rest.{runOf, restOf, run-fits, rest-fits, rest-order, rest-apart, Draws}
 use Rattle.sheet.proofs.Laid.{laidOf, cutsOf, laid-order}
-use Rattle.sheet.proofs.LaidAgain.{rest-piece, rest-laid}
+use Rattle.sheet.proofs.LaidClear.{rest-piece, rest-laid}
 
 -- "Cut the run .." and nothing else: the wire edit with the run cut alone, and its pieces put in
 unfoldable pub addPieces : Wire → List Wire → List Point → List Wire

@@ -18,6 +18,8 @@ pub mod Rest
 pub mod Laid
 pub mod LaidClear
 pub mod LaidWired
+pub mod TracedRun
+pub mod Traced
 pub mod LaidAgain
 pub mod LaidPieces
 pub mod Run

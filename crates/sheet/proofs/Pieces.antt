@@ -1,11 +1,11 @@
 -- Pieces of a wire: what cuts at points leave of it, and what one split leaves.
-use Prim.Native.Nat.{ℕ, _≤_}
+use Prim.Native.Nat.{ℕ, _≤_, _<_}
 use mathlib.Core.List.{List, [], _∷_, List·Memᴰ·head as ∈-head, List·Memᴰ·tail as ∈-tail, Memᴰ·cast as ∈-cast}
 use mathlib.Core.Path.{_≡_, refl, sym, subst, _∙_}
 use mathlib.Core.Logic.{⊎-elim, _⊎_, inl, inr}
 use native.Mathlib.Omega.{arith}
 use Rattle.lists.specs.Lists.{_∈_, Rows, more}
-use Rattle.lists.proofs.Tests.{decide, choose, leb-reads}
+use Rattle.lists.proofs.Tests.{decide, choose, leb-reads, ltb-reads}
 use Rattle.lists.proofs.Lists.{in-cons, in-one}
 use Rattle.lists.proofs.Order.{rows-one}
 use Rattle.symbol.specs.declared.Point.{Point}
@@ -14,7 +14,7 @@ use Rattle.sheet.specs.Points.{same}
 use Rattle.sheet.specs.Lines.{along, across, at, Ends, Inside, Side, low, high, Before, same-line}
 use Rattle.sheet.specs.Split.{left, right, splitOne}
 use Rattle.sheet.specs.Wiring.{Fits}
-use Rattle.sheet.proofs.Lines.{On, inside-reads, same-dir, point-is}
+use Rattle.sheet.proofs.Lines.{On, inside-reads, same-dir, point-is, wire-is}
 use Rattle.sheet.proofs.Before.{before-like, Apart}
 
 -- v lies within w: same direction and line, and no longer
@@ -70,13 +70,21 @@ piece-end {qs} {w} {v} {s} {q} p e =
     (λ (c : Cut qs w (at s v)). let same : q ≡ c .0 = point-is (w .vertical) q (c .0) (sym l ∙ c .2 .line) (omega (arith, e .place, c .3)) in inr (∈-cast same (c .1), subst (λ x. Inside x w) (sym same) (c .2)))
     (p .tip s)
 
+-- a wire with no point of the list inside is left whole
+pub piece-uncut : {qs : List Point} {w v : Wire} → Piece qs w v → ((q : Point) → q ∈ qs → Inside q w → ⊥) → v ≡ w
+piece-uncut {qs} {w} {v} p f = wire-is (p .within .dir) (p .within .line) (still low) (still high)
+  where
+    still : (s : Side) → at s v ≡ at s w
+    still s = ⊎-elim (λ (e : at s v ≡ at s w). e) (λ (c : Cut qs w (at s v)). absurd (f (c .0) (c .1) (c .2))) (p .tip s)
+
 -- ---- one point and one wire
 
--- what one split leaves: all of it is cut from w, nothing has p inside, and every point of w is on some of it
+-- what one split leaves: all of it is cut from w, nothing has p inside, and every point and every stretch of w is on some of it
 pub record One (p : Point) (w : Wire) (vs : List Wire) : Type 0 where
   pub from : (v : Wire) → v ∈ vs → Piece (p ∷ []) w v
   pub clean : (v : Wire) → v ∈ vs → Inside p v → ⊥
   pub cover : (q : Point) → On q w → (v : Wire) × v ∈ vs × On q v
+  pub span : (a : ℕ) → w .start ≤ a → a < w .end → (v : Wire) × v ∈ vs × ((v .start ≤ a) × (a < v .end))
   pub order : Rows Before vs
 
 pub one : (p : Point) (w : Wire) → One p w (splitOne p w)
@@ -91,6 +99,10 @@ one p w = choose (inside-reads p w) (One p w) cut alone
           (λ (x : along (w .vertical) q ≤ along (w .vertical) p). (left p w, ∈-head refl, record { line = o .line; from = o .from; to = x }))
           (λ (x : along (w .vertical) q ≤ along (w .vertical) p → ⊥). (right p w, ∈-tail (∈-head refl), record { line = o .line; from = omega arith; to = o .to }))
           (decide (leb-reads (along (w .vertical) q) (along (w .vertical) p)));
+      span = λ a x y. ⊎-elim
+          (λ (z : a < along (w .vertical) p). (left p w, ∈-head refl, (x, z)))
+          (λ (z : a < along (w .vertical) p → ⊥). (right p w, ∈-tail (∈-head refl), (omega arith, y)))
+          (decide (ltb-reads a (along (w .vertical) p)));
       order = more (λ u n. in-one (Before (left p w)) next n) rows-one;
     }
       where
@@ -116,6 +128,7 @@ one p w = choose (inside-reads p w) (One p w) cut alone
       from = λ v m. in-one (Piece (p ∷ []) w) entire m;
       clean = λ v m. in-one (λ x. Inside p x → ⊥) f m;
       cover = λ q o. (w, ∈-head refl, o);
+      span = λ a x y. (w, ∈-head refl, (x, y));
       order = rows-one;
     }
 

@@ -9,7 +9,7 @@ use Rattle.lists.proofs.Tests.{decide, choose, leb-reads}
 use Rattle.lists.proofs.Lists.{in-cons}
 use Rattle.symbol.specs.declared.Point.{Point}
 use Rattle.sheet.specs.declared.Wire.{Wire}
-use Rattle.sheet.specs.Lines.{along, at, Meets, Side, low, high}
+use Rattle.sheet.specs.Lines.{at, Meets, Side, low, high}
 use Rattle.sheet.specs.Run.{stretch, run}
 use Rattle.sheet.specs.Wiring.{Fits}
 use Rattle.sheet.proofs.Lines.{other, On, meets-reads, same-dir}
@@ -68,18 +68,6 @@ within-meets s t = record { dir = t .dir ∙ s .dir; line = t .line ∙ s .line;
 abbrev pub Upto : Side → ℕ → ℕ → Type 0
 Upto low x y = y ≤ x
 Upto high x y = x ≤ y
-
-pub upto-same : (s : Side) {x y : ℕ} → Upto s x y → Upto s y x → x ≡ y
-upto-same low a b = omega arith
-upto-same high a b = omega arith
-
-pub within-upto : {w v : Wire} → Within w v → (s : Side) → Upto s (at s v) (at s w)
-within-upto k low = k .from
-within-upto k high = k .to
-
-pub on-upto : {q : Point} {w : Wire} → On q w → (s : Side) → Upto s (along (w .vertical) q) (at s w)
-on-upto o low = o .from
-on-upto o high = o .to
 
 -- k lies wholly beyond the end of n
 abbrev pub Beyond : Side → Wire → Wire → Type 0

@@ -1,5 +1,5 @@
 -- What splitting at points does to a list of wires.
-use Prim.Native.Nat.{ℕ, suc, _+_, _≤_}
+use Prim.Native.Nat.{ℕ, suc, _+_, _≤_, _<_}
 use mathlib.Core.Bool.{Bool, true, false, cond}
 use mathlib.Core.List.{List, [], _∷_, _++_, List·Memᴰ·head as ∈-head, List·Memᴰ·tail as ∈-tail, List·Memᴰ·cases-cons as ∈-cases, List·Memᴰ·eq-of-singleton as ∈-one, List·Memᴰ·append-cases as ∈-append, List·Memᴰ·not-nil as ∈-nil}
 use mathlib.Core.Path.{_≡_, refl, sym, subst, _∙_}
@@ -85,6 +85,15 @@ all-cover [] {w = w} m o = (w, m, o, entire)
 all-cover (p ∷ qs) {w = w} {q} m o =
     let s = one p w .cover q o in
     let t = all-cover qs (split-to p m (s .1)) (s .2) in
+    (t .0, t .1, t .2, piece-then (one p w .from (s .0) (s .1)) (t .3))
+
+-- and each stretch of it too
+pub all-span : (qs : List Point) {ws : List Wire} {w : Wire} → w ∈ ws → (a : ℕ) → w .start ≤ a → a < w .end → (v : Wire) × v ∈ splitAll qs ws × ((v .start ≤ a) × (a < v .end)) × Piece qs w v
+unfolding splitAll
+all-span [] {w = w} m a x y = (w, m, (x, y), entire)
+all-span (p ∷ qs) {w = w} m a x y =
+    let s = one p w .span a x y in
+    let t = all-span qs (split-to p m (s .1)) a (s .2 .0) (s .2 .1) in
     (t .0, t .1, t .2, piece-then (one p w .from (s .0) (s .1)) (t .3))
 
 pub all-none : (qs : List Point) (ws : List Wire) → ((q : Point) (w : Wire) → q ∈ qs → w ∈ ws → Inside q w → ⊥) → splitAll qs ws ≡ ws

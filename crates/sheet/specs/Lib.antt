@@ -9,5 +9,6 @@ pub mod Parts
 pub mod Drawings
 pub mod Edits
 pub mod Wiring
+pub mod LiesOn
 pub mod Rules
 pub mod Examples
