@@ -13,7 +13,6 @@ use Rattle.sheet.specs.Edits.{wire, mirror}
 use Rattle.sheet.proofs.Rules.{lawful-good, drawn-lists}
 use Rattle.sheet.proofs.Edits.{wire-again}
 use Rattle.sheet.proofs.Turn.{mirror-safe, mirror-parts}
-use Rattle.rules.proofs.Check.{lawful-none}
 use Rattle.asked.specs.Asked.{askedWire}
 use Rattle.asked.proofs.Within.{wire-drawable}
 use Rattle.edits.specs.Making.{quiet}
@@ -23,14 +22,10 @@ use Rattle.redraw.proofs.Finishing.{edited-room}
 use Rattle.redraw.proofs.Asking.{wire-decides, pointer-decides}
 use Rattle.redraw.proofs.Laws.{by-reply, by-room, wire-accepted}
 use Rattle.schematic.specs.Calls.{checked}
-use Rattle.schematic.proofs.Checking.{lawful-edited}
+use Rattle.schematic.proofs.Checking.{lawful-passes}
 use Rattle.lent.specs.Noting.{noted}
 use Rattle.lent.proofs.Noting.{taken}
 use Rattle.promises.specs.Request14.{SameAgain, NothingLost, Request14}
-
--- the public call on a lawful drawing is the call below the check
-public : {d : Drawing} → Lawful d → (t : Tally) (e : Edited) → e ≡ checked d t e
-public {d} l t e = lawful-edited d (lawful-none l) t e refl
 
 -- ---- drawing over a line
 
@@ -58,8 +53,8 @@ module _ (t u : Tally) where
           ∙ edited-room (drawn (wire n (listsOf d))) u (quiet (wire n (listsOf d))) r)))
 
       public-twice : Over (λ x. checked x u (addWire x v a s e u)) (checked d t (addWire d v a s e t))
-      public-twice = subst (Over (λ x. checked x u (addWire x v a s e u))) (public l t (addWire d v a s e t)) (λ z.
-          same-again _ z (sym (public (wire-accepted l t v a s e z .lawful) u _) ∙ twice z .answer))
+      public-twice = subst (Over (λ x. checked x u (addWire x v a s e u))) (lawful-passes l t (addWire d v a s e t)) (λ z.
+          same-again _ z (sym (lawful-passes (wire-accepted l t v a s e z .lawful) u _) ∙ twice z .answer))
 
 -- ---- mirror never loses
 
@@ -81,5 +76,5 @@ request-14 = record {
   wire-on = λ d l v a s e t u. twice t u v a s e l;
   wire = λ d l v a s e t u. public-twice t u v a s e l;
   mirror-on = λ d l x y n t. nothing-lost l x y n t;
-  mirror = λ d l x y n t. subst (NothingLost d) (public l t (mirrorAt d x y n t)) (nothing-lost l x y n t);
+  mirror = λ d l x y n t. subst (NothingLost d) (lawful-passes l t (mirrorAt d x y n t)) (nothing-lost l x y n t);
 }

@@ -33,7 +33,7 @@ use Rattle.redraw.specs.declared.Edited.{Edited}
 use Rattle.redraw.specs.declared.pointer.Act.{Act}
 use Rattle.redraw.specs.declared.pointer.Act.the-variants.{Delete, TurnRight, Mirror}
 use Rattle.redraw.specs.Acts.{acted}
-use Rattle.redraw.specs.Calls.{refusedUnless, edited, addWire, pointed, deleteAt}
+use Rattle.redraw.specs.Calls.{still, refusedUnless, edited, addWire, pointed, deleteAt}
 use Rattle.redraw.proofs.Finishing.{edited-room}
 use Rattle.redraw.proofs.Asking.{pointer-decides}
 use Rattle.redraw.proofs.Laws.{by-reply, by-room}
@@ -83,15 +83,11 @@ module _ {d : Drawing} (l : Lawful d) (t : Tally) where
 
   -- ---- nothing changes
 
-  -- the answer that leaves the drawing as it was; "the tally is still filled"
-  abbrev pub still : Edited
-  still = record { reply = 0; tally = tallyOf (listsOf d); drawing = d; hit = 0; lost = 0 }
-
-  still-is : Sized d → edited d t (quiet (listsOf d)) ≡ still
+  pub still-is : Sized d → edited d t (quiet (listsOf d)) ≡ still d
   still-is z = edited-room d t (quiet (listsOf d)) (lawful-room l) ∙ (λ i. record { reply = 0; tally = tallyOf (listsOf d); drawing = sym (lawful-drawn l z) i; hit = 0; lost = 0 })
 
   -- "A zero-length wire inside the range gives 0 and the drawing as it was"
-  pub wire-idle : Sized d → (v : Bool) (a s : ℤ) → ranged 6000 a ≡ true → ranged 6000 s ≡ true → addWire d v a s s t ≡ still
+  pub wire-idle : Sized d → (v : Bool) (a s : ℤ) → ranged 6000 a ≡ true → ranged 6000 s ≡ true → addWire d v a s s t ≡ still d
   unfolding addWire wire
   wire-idle z v a s p q =
       let e : leZ s s ≡ true = agree (leZ s s) true (λ u. tt) (λ u. ≤ℤ-refl s .le) in
@@ -110,6 +106,6 @@ module _ {d : Drawing} (l : Lawful d) (t : Tally) where
   missed Mirror p n m = turn-nothing (hits p n) mirrored (listsOf d) (lawful-good l) m
 
   -- "A delete, turn or mirror that hits nothing gives 0."
-  pub act-idle : Sized d → (a : Act) (x y n : ℤ) → ranged 6000 x ≡ true → ranged 6000 y ≡ true → eqb (sizedReply (sizeOf n)) 0 ≡ true → Misses a (pointAt x y) (toℕ n) → pointed d x y n t (λ p m. acted a p m (listsOf d)) ≡ still
+  pub act-idle : Sized d → (a : Act) (x y n : ℤ) → ranged 6000 x ≡ true → ranged 6000 y ≡ true → eqb (sizedReply (sizeOf n)) 0 ≡ true → Misses a (pointAt x y) (toℕ n) → pointed d x y n t (λ p m. acted a p m (listsOf d)) ≡ still d
   unfolding pointed
   act-idle z a x y n p q r m = rw (p, q, r) (ap (edited d t) (missed a (pointAt x y) (toℕ n) m) ∙ still-is z)

@@ -33,6 +33,10 @@ refusedUnless b n d t other = cond b other (refused n d t)
 abbrev pub editDone : Outcome → Edited
 editDone o = record { reply = 0; tally = tallyOf (o .sheet); drawing = drawn (o .sheet); hit = o .hit; lost = o .lost }
 
+-- "gives 0 and the drawing as it was; the tally is still filled"
+abbrev pub still : Drawing → Edited
+still d = record { reply = 0; tally = tallyOf (listsOf d); drawing = d; hit = 0; lost = 0 }
+
 -- 7 or 0
 unfoldable pub edited : Drawing → Tally → Outcome → Edited
 edited d t o = refusedUnless (roomy (o .sheet)) 7 d t (editDone o)

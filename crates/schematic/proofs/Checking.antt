@@ -10,7 +10,7 @@ use Rattle.sheet.specs.Drawings.{Sized}
 use Rattle.sheet.specs.Rules.{Lawful}
 use Rattle.rules.specs.declared.Checked.{Checked}
 use Rattle.rules.specs.Check.{checkOf, lawful}
-use Rattle.rules.proofs.Check.{check-lawful}
+use Rattle.rules.proofs.Check.{check-lawful, lawful-none}
 use Rattle.redraw.specs.declared.Edited.{Edited}
 use Rattle.redraw.specs.Calls.{refused, refusedUnless}
 use Rattle.redraw.proofs.Laws.{Accepted}
@@ -31,6 +31,10 @@ module _ (d : Drawing) {k : Checked} (q : k ≡ checkOf d) where
     pub lawful-edited : k .rule ≡ 0 → e ≡ checked d t e
     unfolding checked
     lawful-edited z = rw (eq-eqb (checkOf d .rule) 0 (sym rule ∙ z))
+
+-- the call on a lawful drawing is the edit
+pub lawful-passes : {d : Drawing} → Lawful d → (t : Tally) (e : Edited) → e ≡ checked d t e
+lawful-passes {d} l t e = lawful-edited d (lawful-none l) t e refl
 
 -- what holds of an edit's answer if the drawing is lawful holds of the call's: reply 0 gives a lawful drawing and a tally that adds up
 pub checked-accepted : (d : Drawing) (t : Tally) (e : Edited) → Sized d → (Lawful d → Accepted e) → Accepted (checked d t e)
