@@ -49,10 +49,13 @@ fn edits() {
     run(empty(), b"p 1 0 0 0\nd 51 0 0\nr 0 101 0\nm 0 -101 0");
 }
 
-// Document 02, P14: a wire traced as it was drawn and in part, through a crossing that it joined, over a pad; contacts mirrored side by
-// side
+// Document 02, P14: a wire traced as it was drawn, in part and with a branch on it; through a crossing that it joined; over a pad. Contacts
+// mirrored side by side
 fn traced() {
-    run(empty(), b"h 0 0 100\nh 0 0 100\nh 0 20 50\nh 0 20 50");
+    run(
+        empty(),
+        b"h 0 0 100\nh 0 0 100\nh 0 20 50\nv 30 0 80\nh 0 0 100\nh 0 10 30",
+    );
     run(
         empty(),
         b"h 0 0 100\nv 50 -40 40\nh 0 50 60\nh 0 50 60\nv 50 -40 40",
