@@ -1,5 +1,5 @@
 -- "Users trace an existing wire to be sure of it" (document 02, P14). Beyond what P14 asks to be proved: a wire drawn over wires that are
--- there, whatever was drawn since, changes nothing.
+-- there, whatever was drawn since, changes nothing, if neither of its ends lies on a bare crossing.
 use mathlib.Core.Path.{_≡_}
 use mathlib.Core.Bool.{Bool}
 use lib.IntN.{ℤ}
@@ -15,14 +15,15 @@ use Rattle.redraw.specs.Calls.{still, addWire}
 use Rattle.schematic.specs.Calls.{checked}
 use Rattle.promises.specs.Request14.{WireCall}
 
--- the wire asked for, its coordinates in range and in order, lies on wires of the drawing: the call replies 0 and gives the drawing as it was
+-- the wire asked for, its coordinates in range and in order, lies on wires of the drawing: the call replies 0 and gives the drawing as it
+-- was, with its tally
 abbrev pub Traced : WireCall → Type 0
 Traced call =
     (d : Drawing) → Sized d → Lawful d → (vertical : Bool) (line start end : ℤ) (t : Tally)
     → let asked = askedWire vertical line start end in
     asked .reply ≡ 0 → LiesOn (listsOf d .wires) (asked .wire) → call d vertical line start end t ≡ still d
 
--- each wire of a drawing lies on its wires; and of the call below the check and the public one
+-- each wire of a lawful drawing is such a wire; and this holds of the call below the check and of the public one
 pub record ExistingWire : Type 0 where
   pub row : (d : Drawing) → Lawful d → (w : Wire) → w ∈ listsOf d .wires → LiesOn (listsOf d .wires) w
   pub wire-on : Traced addWire

@@ -55,7 +55,7 @@ module _ (E : Draws) where
       place (inr e) (inr t) = end-on (E .fit) (e .1)
 
   -- and none is inside what stands before the run goes in
-  pub rest-clear : {q : Point} {w : Wire} → Spot E q → w ∈ restOf E → Inside q w → ⊥
+  rest-clear : {q : Point} {w : Wire} → Spot E q → w ∈ restOf E → Inside q w → ⊥
   rest-clear {q} {w} s m i = go (spot-old E s)
     where
       go : Old E q → ⊥

@@ -1,4 +1,4 @@
--- A wire drawn over wires that are there changes nothing: each piece of the run is one of them.
+-- A wire that lies on wires which are there changes nothing when drawn: each piece of the run is one of them.
 use Prim.Native.Nat.{_<_}
 use mathlib.Core.List.{Memᴰ·cast as ∈-cast}
 use mathlib.Core.Path.{_≡_, sym, _∙_}
