@@ -8,7 +8,6 @@ use lib.Dec.{eqb}
 use lib.IntN.{ℤ}
 use lib.Signed.{leZ}
 use Rattle.edge.specs.Coordinates.{biased, ranged, toℕ, sizedReply, sizeOf}
-use Rattle.orientation.specs.declared.RotMirror.{RotMirror}
 use Rattle.symbol.specs.Symbols.{knownSymbol}
 use Rattle.label.specs.declared.Label.{Label}
 use Rattle.label.specs.declared.Held.{Held}
@@ -43,7 +42,7 @@ module _ (v : Bool) (l s e : ℤ) {a b c : Found} (p : Tells (ranged 6000 l) (bi
         let y = both (ranged 6000 s) (ranged 6000 e) (x .1) in
         rw (near, u) (λ i. record { reply = 0; wire = record { vertical = v; line = p .number (x .0) i; start = q .number (y .0) i; end = r .number (y .1) i } })
 
-module _ (k : ℕ) (o : RotMirror) (x y : ℤ) (l : Label) {j : Bool} (w : j ≡ knownSymbol k o) where
+module _ (k : ℕ) (o : ℕ) (x y : ℤ) (l : Label) {j : Bool} (w : j ≡ knownSymbol k o) where
   pub unknown-part : not j ≡ true → noPart 4 ≡ askedPart k o x y l
   unfolding askedPart
   unknown-part t = rw (sym w ∙ not-true _ t)
@@ -70,11 +69,11 @@ module _ (k : ℕ) (o : RotMirror) (x y : ℤ) (l : Label) {j : Bool} (w : j ≡
       unfolding askedPart
       unlabelled-part f = rw (sort, in-place, ne-eqb (heldLabel l .reply) 0 (λ z. f (reply ∙ z)))
 
-      pub asked-part : h .reply ≡ 0 → _≡_ {A = AskedPart} (record { reply = 0; part = record { kind = k; «rot_mirror» = o; x = a .at; y = b .at; label = h .bytes } }) (askedPart k o x y l)
+      pub asked-part : h .reply ≡ 0 → _≡_ {A = AskedPart} (record { reply = 0; part = record { kind = k; orientation = o; x = a .at; y = b .at; label = h .bytes } }) (askedPart k o x y l)
       unfolding askedPart
       asked-part z =
           let s = both (ranged 5800 x) (ranged 5800 y) in-place in
-          rw (sort, in-place, eq-eqb (heldLabel l .reply) 0 (sym reply ∙ z)) (λ i. record { reply = 0; part = record { kind = k; «rot_mirror» = o; x = p .number (s .0) i; y = q .number (s .1) i; label = e i .bytes } })
+          rw (sort, in-place, eq-eqb (heldLabel l .reply) 0 (sym reply ∙ z)) (λ i. record { reply = 0; part = record { kind = k; orientation = o; x = p .number (s .0) i; y = q .number (s .1) i; label = e i .bytes } })
 
 module _ (x y n : ℤ) {a b c : Found} (p : Tells (ranged 6000 x) (biased x) a) (q : Tells (ranged 6000 y) (biased y) b) (r : Tells (eqb (sizedReply (sizeOf n)) 0) (toℕ n) c) where
   pointed : (a .inside && b .inside) ≡ (ranged 6000 x && ranged 6000 y)

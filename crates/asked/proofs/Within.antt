@@ -4,7 +4,7 @@ use native.Mathlib.Omega.{arith}
 use mathlib.Core.Bool.{Bool, true, false, _&&_, cond}
 use mathlib.Core.Path.{_≡_, refl, sym, subst, _∙_}
 use borrow.Author.Tests.{leb-true}
-use lib.Dec.{T, eqb, leb, leb→le, eqb→eq}
+use lib.Dec.{T, eqb, leb, ltb, leb→le, ltb→lt, eqb→eq}
 use lib.IntN.{ℤ, pos, negsuc, natAbs}
 use lib.Signed.{leZ}
 use Rattle.lists.proofs.Tests.{both, both-l, both-r}
@@ -12,8 +12,6 @@ use Rattle.edge.specs.Coordinates.{biased, ranged, insideOf, toℕ, sizedReply,
 use Rattle.edge.specs.declared.PointerSize.the-variants.{Is, Wrong}
 use Rattle.edge.proofs.Whole.{toℕ-sub}
 use Rattle.edge.proofs.Places.{lifted, narrow-test}
-use Rattle.orientation.specs.declared.RotMirror.{RotMirror}
-use Rattle.orientation.specs.Orientations.{known}
 use Rattle.symbol.specs.Symbols.{knownSymbol}
 use Rattle.label.specs.declared.Label.{Label}
 use Rattle.label.specs.Labels.{heldLabel}
@@ -72,7 +70,7 @@ module _ (v : Bool) (l s e : ℤ) where
       go true false p q z = absurd (omega arith)
       go false b p q z = absurd (omega arith)
 
-module _ (k : ℕ) (o : RotMirror) (x y : ℤ) (l : Label) where
+module _ (k : ℕ) (o : ℕ) (x y : ℤ) (l : Label) where
   pub part-fits : {a : AskedPart} → a ≡ askedPart k o x y l → a .reply ≡ 0 → PartFits (a .part)
   unfolding askedPart
   part-fits q = subst (λ (a : AskedPart). a .reply ≡ 0 → PartFits (a .part)) (sym q) (go (knownSymbol k o) (ranged 5800 x && ranged 5800 y) (eqb (heldLabel l .reply) 0) refl refl refl)
@@ -82,9 +80,9 @@ module _ (k : ℕ) (o : RotMirror) (x y : ℤ) (l : Label) where
 
       go : (a b c : Bool) → (knownSymbol k o) ≡ a → (ranged 5800 x && ranged 5800 y) ≡ b → eqb (heldLabel l .reply) 0 ≡ c → A a b c .reply ≡ 0 → PartFits (A a b c .part)
       go true true true p q r z =
-          let a = both (leb k 2) (known o) p in
+          let a = both (leb k 2) (ltb o 8) p in
           let b = both (ranged 5800 x) (ranged 5800 y) q in
-          record { kind = leb-true k 2 (a .0); orientation = subst T (sym (a .1)) tt; x = standing x (b .0); y = standing y (b .1); label = accepted-holds l (eqb→eq (heldLabel l .reply) 0 (subst T (sym r) tt)) .ok }
+          record { kind = leb-true k 2 (a .0); orientation = ltb→lt o 8 (subst T (sym (a .1)) tt); x = standing x (b .0); y = standing y (b .1); label = accepted-holds l (eqb→eq (heldLabel l .reply) 0 (subst T (sym r) tt)) .ok }
       go true true false p q r z = absurd (omega arith)
       go true false c p q r z = absurd (omega arith)
       go false b c p q r z = absurd (omega arith)

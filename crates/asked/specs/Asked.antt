@@ -6,7 +6,6 @@ use lib.IntN.{ℤ}
 use lib.Signed.{leZ}
 pub use Rattle.edge.specs.Coordinates.{ranged}
 use Rattle.edge.specs.Coordinates.{biased, toℕ, sizedReply, sizeOf}
-use Rattle.orientation.specs.declared.RotMirror.{RotMirror}
 use Rattle.label.specs.declared.Label.{Label}
 use Rattle.label.specs.Labels.{heldLabel}
 use Rattle.symbol.specs.declared.Point.{Point}
@@ -38,15 +37,15 @@ askedWire vertical line start end =
 -- ---- a component
 
 -- a component as rows hold it, its label "held in 16 bytes with zeros behind"
-abbrev pub componentAt : ℕ → RotMirror → ℤ → ℤ → Label → Component
-componentAt kind o x y label = record { kind = kind; «rot_mirror» = o; x = biased x; y = biased y; label = heldLabel label .bytes }
+abbrev pub componentAt : ℕ → ℕ → ℤ → ℤ → Label → Component
+componentAt kind o x y label = record { kind = kind; orientation = o; x = biased x; y = biased y; label = heldLabel label .bytes }
 
 -- the refusal n, with a row of zeros
 abbrev pub noPart : ℕ → AskedPart
 noPart n = record { reply = n; part = zeroComponent }
 
 -- "4: unknown kind, or not one of the eight orientations", "5: label too long or with another byte"
-unfoldable pub askedPart : ℕ → RotMirror → ℤ → ℤ → Label → AskedPart
+unfoldable pub askedPart : ℕ → ℕ → ℤ → ℤ → Label → AskedPart
 askedPart kind o x y label =
     cond (knownSymbol kind o)
     (cond (ranged 5800 x && ranged 5800 y) (cond (eqb (heldLabel label .reply) 0) (record { reply = 0; part = componentAt kind o x y label }) (noPart 5)) (noPart 1))

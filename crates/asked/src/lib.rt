@@ -8,7 +8,6 @@ use edge::place;
 use edge::place_component;
 use label::Label;
 use label::held_label;
-use orientation::RotMirror;
 use sheet::Component;
 use sheet::Wire;
 use symbol::Point;
@@ -87,7 +86,7 @@ fn no_part(reply: u8) -> AskedPart
 {
     let part = Component {
         kind: 0,
-        rot_mirror: RotMirror(0, 0, 0, 0),
+        orientation: 0,
         x: 0,
         y: 0,
         label: [0u8; 16],
@@ -96,10 +95,10 @@ fn no_part(reply: u8) -> AskedPart
 }
 
 // A component: a known kind and orientation, else 4; its position in its range, else 1; its label, else 5.
-pub fn asked_part(kind: u8, rot_mirror: RotMirror, x: i32, y: i32, label: Label) -> AskedPart
-    ensures { λ r. ⌜ r ≡ askedPart kind «rot_mirror» x y label ⌝ }
+pub fn asked_part(kind: u8, orientation: u8, x: i32, y: i32, label: Label) -> AskedPart
+    ensures { λ r. ⌜ r ≡ askedPart kind orientation x y label ⌝ }
 {
-    if !symbol::is_known(kind, rot_mirror) {
+    if !symbol::is_known(kind, orientation) {
         return no_part(4);
     }
     let a = place_component(x);
@@ -114,7 +113,7 @@ pub fn asked_part(kind: u8, rot_mirror: RotMirror, x: i32, y: i32, label: Label)
     let bytes = held.bytes;
     let part = Component {
         kind,
-        rot_mirror,
+        orientation,
         x: a.at,
         y: b.at,
         label: bytes,

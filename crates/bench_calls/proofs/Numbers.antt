@@ -5,8 +5,6 @@ use mathlib.Core.Path.{_≡_, refl, sym, subst}
 use borrow.Author.Tests.{lt-ltb, le-ltb, ne-eqb}
 use lib.IntN.{ℤ}
 use Rattle.lists.proofs.Tests.{choose, eqb-reads, ltb-reads}
-use Rattle.orientation.specs.declared.RotMirror.{RotMirror}
-use Rattle.orientation.specs.Orientations.{numberedOf}
 use Rattle.label.specs.declared.Label.{Label}
 use Rattle.sheet.specs.declared.Drawing.{Drawing}
 use Rattle.sheet.specs.declared.Tally.{Tally}
@@ -16,9 +14,9 @@ use Rattle.redraw.proofs.Laws.{Accepted, wire-accepted, component-accepted, del
 use Rattle.bench_calls.specs.Numbered.{label, placeBy, editOf}
 
 module _ (what : ℕ) (x y : ℤ) (d : Drawing) (t : Tally) where
-  pub placed : {o : RotMirror} {l : Label} → o ≡ numberedOf (what % 8) .turn → l ≡ label → addComponent d (what / 8 - 1) o x y l t ≡ placeBy what x y d t
+  pub placed : {l : Label} → l ≡ label → addComponent d (what / 8 - 1) (what % 8) x y l t ≡ placeBy what x y d t
   unfolding placeBy
-  placed p q = λ i. addComponent d (what / 8 - 1) (p i) x y (q i) t
+  placed q = λ i. addComponent d (what / 8 - 1) (what % 8) x y (q i) t
 
   module _ (z : ℤ) where
     pub is-place : 8 ≤ what → placeBy what x y d t ≡ editOf what x y z d t
@@ -53,4 +51,4 @@ edit-accepted what x y z l t =
     (λ _. choose (eqb-reads what 1) Accepted (λ _. wire-accepted l t true x y z)
     (λ _. choose (eqb-reads what 2) Accepted (λ _. delete-accepted l t x y z)
     (λ _. choose (eqb-reads what 3) Accepted (λ _. rotate-accepted l t x y z) (λ _. mirror-accepted l t x y z)))))
-    (λ _. component-accepted l t (what / 8 - 1) (numberedOf (what % 8) .turn) x y label)
+    (λ _. component-accepted l t (what / 8 - 1) (what % 8) x y label)

@@ -10,7 +10,6 @@ use lib.ListN.{length, getD, length-take}
 use Rattle.lists.specs.Tables.{pad, Holds}
 use Rattle.lists.proofs.Tables.{length-pad, same-row}
 use Rattle.lists.specs.Lists.{keep, insert}
-use Rattle.orientation.specs.Orientations.{numberedOf}
 use Rattle.symbol.specs.declared.Point.{Point}
 use Rattle.sheet.specs.declared.Wire.{Wire}
 use Rattle.sheet.specs.declared.Component.{Component}
@@ -110,7 +109,7 @@ module _ (x y : ℤ) (d : Drawing) where
   unfolding insertedAnswer
   inserted-full h = rw (le-ltb (d .components .count) 128 h) refl
 
-  pub inserted-row : {c : Component} → c ≡ askedPart 1 (numberedOf 0 .turn) x y label .part → d .components .count < 128 → xAt (c .x % 128) (insert ahead c (listsOf d .parts)) ≡ insertedAnswer x y d
+  pub inserted-row : {c : Component} → c ≡ askedPart 1 0 x y label .part → d .components .count < 128 → xAt (c .x % 128) (insert ahead c (listsOf d .parts)) ≡ insertedAnswer x y d
   unfolding insertedAnswer
   inserted-row e h = ap (λ (c : Component). xAt (c .x % 128) (insert ahead c (listsOf d .parts))) e ∙ rw (lt-ltb (d .components .count) 128 h) refl
 

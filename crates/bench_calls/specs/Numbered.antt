@@ -5,7 +5,6 @@ use mathlib.Core.List.{_∷_}
 use lib.Dec.{eqb, ltb}
 use lib.IntN.{ℤ}
 use lib.ListN.{replicate}
-use Rattle.orientation.specs.Orientations.{numberedOf}
 use Rattle.label.specs.declared.Label.{Label}
 use Rattle.sheet.specs.declared.Drawing.{Drawing}
 use Rattle.sheet.specs.declared.Tally.{Tally}
@@ -18,7 +17,7 @@ label = record { bytes = 75 ∷ replicate 15 0; length = 1 }
 
 -- a component of the kind what / 8 - 1, in the orientation what % 8
 unfoldable pub placeBy : ℕ → ℤ → ℤ → Drawing → Tally → Edited
-placeBy what x y d t = addComponent d (what / 8 - 1) (numberedOf (what % 8) .turn) x y label t
+placeBy what x y d t = addComponent d (what / 8 - 1) (what % 8) x y label t
 
 -- 0 and 1 a wire, 2 delete, 3 turn right, 4 to 7 mirror, from 8 on a component
 unfoldable pub editOf : ℕ → ℤ → ℤ → ℤ → Drawing → Tally → Edited

@@ -7,7 +7,6 @@ use lib.IntN.{ℤ}
 use lib.ListN.{length, getD}
 use Rattle.lists.specs.Lists.{keep, insert}
 use Rattle.lists.specs.Tables.{pad}
-use Rattle.orientation.specs.Orientations.{numberedOf}
 use Rattle.sheet.specs.declared.Wire.{Wire}
 use Rattle.sheet.specs.declared.Component.{Component}
 use Rattle.sheet.specs.declared.Drawing.{Drawing}
@@ -54,7 +53,7 @@ laidAnswer x y z d =
 -- 12 a contact put in, in row order
 unfoldable pub insertedAnswer : ℤ → ℤ → Drawing → ℕ
 insertedAnswer x y d =
-    let c = askedPart 1 (numberedOf 0 .turn) x y label .part in
+    let c = askedPart 1 0 x y label .part in
     cond (ltb (d .components .count) 128) (xAt (c .x % 128) (insert ahead c (listsOf d .parts))) 0
 
 -- 13 wires merged, 14 joints counted, 15 pads

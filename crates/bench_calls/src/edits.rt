@@ -2,13 +2,10 @@
 // numbers for each kind, by orientation.
 ghost use mathlib.Core.Path.{_≡_};
 ghost use Prim.Native.Nat.{_≤_};
-ghost use Rattle.orientation.specs.Orientations.{numberedOf};
 ghost use Rattle.sheet.specs.Rules.{Lawful};
 ghost use Rattle.schematic.specs.Calls.{checked};
 ghost use Rattle.bench_calls.specs.Numbered.{label, placeBy, editOf};
 use label::Label;
-use orientation::RotMirror;
-use orientation::numbered;
 use redraw::Edited;
 use redraw::component::add_component_on;
 use redraw::pointer::delete_on;
@@ -32,21 +29,12 @@ pub(crate) fn k_label() -> Label
     Label { bytes, length: 1 }
 }
 
-// The orientation of a number.
-pub(crate) fn turn_of(n: u8) -> RotMirror
-    ensures { λ r. ⌜ r ≡ numberedOf n .turn ⌝ }
-{
-    let t = numbered(n);
-    t.turn
-}
-
 fn place_on(d: Drawing, what: u8, x: i32, y: i32, t: Tally) -> Edited
     requires { ⌜ Lawful d × (8 ≤ what) ⌝ }
     ensures { λ r. ⌜ r ≡ placeBy what x y d t ⌝ }
 {
-    let o = turn_of(what % 8);
     let l = k_label();
-    add_component_on(d, what / 8 - 1, o, x, y, l, t)
+    add_component_on(d, what / 8 - 1, what % 8, x, y, l, t)
 }
 
 // On a drawing known to be lawful.
@@ -76,9 +64,8 @@ fn place_checked(d: Drawing, what: u8, x: i32, y: i32, t: Tally) -> Edited
     requires { ⌜ 8 ≤ what ⌝ }
     ensures { λ r. ⌜ r ≡ checked d t (placeBy what x y d t) ⌝ }
 {
-    let o = turn_of(what % 8);
     let l = k_label();
-    add_component(d, what / 8 - 1, o, x, y, l, t)
+    add_component(d, what / 8 - 1, what % 8, x, y, l, t)
 }
 
 // By the public call, which checks the drawing first.

@@ -16,7 +16,6 @@ ghost use Rattle.sheet.specs.Split.{splitAt};
 ghost use Rattle.parts.specs.Tables.{PartsFit, TabledParts};
 ghost use Rattle.bench_calls.specs.Tables.{grownRows, lineAt, xAt, pointedAnswer, laidAnswer, insertedAnswer, wholeAnswer, tableAnswer};
 use crate::edits::k_label;
-use crate::edits::turn_of;
 use asked::asked_part;
 use asked::asked_pointer;
 use asked::asked_wire;
@@ -162,9 +161,8 @@ fn inserted_answer(d: Drawing, x: i32, y: i32) -> u32
     requires { ⌜ Lawful d ⌝ }
     ensures { λ r. ⌜ r ≡ insertedAnswer x y d ⌝ }
 {
-    let o = turn_of(0);
     let l = k_label();
-    let a = asked_part(1, o, x, y, l);
+    let a = asked_part(1, 0, x, y, l);
     let c = a.part;
     let cs = d.components;
     if cs.count >= 128 {

@@ -5,7 +5,6 @@ use Prim.Native.String.{String}
 use mathlib.Core.Bool.{true, false}
 use mathlib.Core.List.{List, [], _∷_, _++_}
 use lib.ListN.{take, drop, replicate}
-use Rattle.orientation.specs.Orientations.{numberedOf}
 use Rattle.label.specs.Labels.{labelOf}
 use Rattle.sheet.specs.declared.Drawing.{Drawing}
 use Rattle.sheet.specs.declared.Tally.{Tally}
@@ -57,7 +56,7 @@ unfoldable pub callOf : Drawing → Tally → List ℕ → Command → Reported
 callOf d t line (Horizontal y x1 x2) = reportPlain (checked d t (addWire d false y x1 x2 t))
 callOf d t line (Vertical x y1 y2) = reportPlain (checked d t (addWire d true x y1 y2 t))
 callOf d t line (Place kind orient x y at) =
-    reportPlain (checked d t (addComponent d (choiceOf kind) (numberedOf (choiceOf orient) .turn) x y (labelOf (drop at line)) t))
+    reportPlain (checked d t (addComponent d (choiceOf kind) (choiceOf orient) x y (labelOf (drop at line)) t))
 callOf d t line (Delete x y size) = reportPlain (checked d t (deleteAt d x y size t))
 callOf d t line (Turn x y size) = reportCounted (checked d t (rotateAt d x y size t))
 callOf d t line (Mirror x y size) = reportCounted (checked d t (mirrorAt d x y size t))

@@ -4,12 +4,13 @@ use mathlib.Core.Path.{_≡_, refl, subst}
 use Prim.Native.Nat.{ℕ, zero, suc, _≤_}
 use mathlib.Core.Bool.{Bool, true, false, _&&_, cond}
 use mathlib.Core.List.{List, [], _∷_, map, List·Memᴰ·head as ∈-head, List·Memᴰ·tail as ∈-tail}
-use lib.Dec.{T, leb, eqb, leb→le}
+use lib.Dec.{T, leb, ltb, eqb, leb→le, ltb→lt}
 use lib.Signed.{ltZ}
 use lib.IntN.{ℤ, natAbs}
 use Rattle.lists.specs.Lists.{_∈_}
 use Rattle.lists.proofs.Tests.{Reads, pass, fail, test, both-l, both-r}
-use Rattle.orientation.specs.Orientations.{known}
+use Rattle.orientation.specs.Orientations.{eighth}
+use Rattle.orientation.proofs.Turns.{eighth-known}
 use Rattle.orientation.specs.declared.RotMirror.{RotMirror}
 use Rattle.label.specs.Labels.{heldLabel}
 use Rattle.label.specs.declared.Label.{Label}
@@ -36,13 +37,13 @@ found o x y (d ∷ ds) (suc i) r h e = let s = found o x y ds i r (λ d m. h d (
 
 pub component-close : ComponentClose
 unfolding componentShape
-component-close kind o x y label i a b r = go (test (knownSymbol kind o)) (test (ranged 5800 x && ranged 5800 y)) (test (eqb (heldLabel label .reply) 0))
+component-close kind n x y label i a b r = go (test (knownSymbol kind n)) (test (ranged 5800 x && ranged 5800 y)) (test (eqb (heldLabel label .reply) 0))
   where
-    go : {t u v : Bool} → Reads (T (knownSymbol kind o)) t → Reads (T (ranged 5800 x && ranged 5800 y)) u → Reads (T (eqb (heldLabel label .reply) 0)) v
-        → cond t (cond u (cond v (asked i (map (transformOf o (floatPosition x y)) (drawsOf kind a b))) (refusedShape 5)) (refusedShape 1)) (refusedShape 4) ≡ shapeIs r → Shown o x y i (drawsOf kind a b) r
+    go : {t u v : Bool} → Reads (T (knownSymbol kind n)) t → Reads (T (ranged 5800 x && ranged 5800 y)) u → Reads (T (eqb (heldLabel label .reply) 0)) v
+        → cond t (cond u (cond v (asked i (map (transformOf (eighth n) (floatPosition x y)) (drawsOf kind a b))) (refusedShape 5)) (refusedShape 1)) (refusedShape 4) ≡ shapeIs r → Shown (eighth n) x y i (drawsOf kind a b) r
     go (pass k) (pass p) (pass l) e =
-        found o x y (drawsOf kind a b) i r
-        (transform-close o x y (both-r (leb kind 2) (known o) k) (leb→le (natAbs x) 5800 (both-l (ranged 5800 x) (ranged 5800 y) p)) (leb→le (natAbs y) 5800 (both-r (ranged 5800 x) (ranged 5800 y) p)) kind a b) e
+        found (eighth n) x y (drawsOf kind a b) i r
+        (transform-close (eighth n) x y (eighth-known n (ltb→lt n 8 (both-r (leb kind 2) (ltb n 8) k))) (leb→le (natAbs x) 5800 (both-l (ranged 5800 x) (ranged 5800 y) p)) (leb→le (natAbs y) 5800 (both-r (ranged 5800 x) (ranged 5800 y) p)) kind a b) e
     go (pass k) (pass p) (fail l) e = absurd (no-refusal 4 r e)
     go (pass k) (fail p) l e = absurd (no-refusal 0 r e)
     go (fail k) p l e = absurd (no-refusal 3 r e)

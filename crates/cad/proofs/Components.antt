@@ -5,7 +5,7 @@ use mathlib.Core.Bool.{Bool, true, false, _&&_}
 use mathlib.Core.List.{map}
 use lib.IntN.{ℤ}
 use borrow.Author.Tests.{eq-eqb, ne-eqb}
-use Rattle.orientation.specs.declared.RotMirror.{RotMirror}
+use Rattle.orientation.specs.Orientations.{eighth}
 use Rattle.label.specs.Labels.{heldLabel}
 use Rattle.label.specs.declared.Label.{Label}
 use Rattle.label.specs.declared.Held.{Held}
@@ -23,7 +23,7 @@ use Rattle.cad.specs.Shapes.{componentShape}
 use Rattle.cad.proofs.Asked.{asked-at, asked-past}
 use Rattle.cad.proofs.Places.{Tested}
 
-module _ (kind : ℕ) (o : RotMirror) where
+module _ (kind : ℕ) (o : ℕ) where
   symbol-test : {k t : Bool} → k ≡ knownSymbol kind o → k ≡ t → knownSymbol kind o ≡ t
   symbol-test K t = sym K ∙ t
 
@@ -48,15 +48,15 @@ module _ (kind : ℕ) (o : RotMirror) where
       mislabelled f = simp (symbol-test K t, place-test u, ne-eqb (heldLabel label .reply) 0 (λ r. f ((λ j. H j .reply) ∙ r)))
 
       module _ (g : h .reply ≡ 0) (r : Choice) (R : chosen r ≡ asked i (drawsOf kind a b)) where
-        good : Right (asked i (map (transformOf o (floatPosition x y)) (drawsOf kind a b)))
+        good : Right (asked i (map (transformOf (eighth o) (floatPosition x y)) (drawsOf kind a b)))
         unfolding componentShape
         good = simp (symbol-test K t, place-test u, eq-eqb (heldLabel label .reply) 0 (sym (λ j. H j .reply) ∙ g))
 
         pub past : r ≡ Nothing → Right no-shape
-        past e = asked-past (transformOf o (floatPosition x y)) (drawsOf kind a b) i (sym (ap chosen e) ∙ R) ∙ good
+        past e = asked-past (transformOf (eighth o) (floatPosition x y)) (drawsOf kind a b) i (sym (ap chosen e) ∙ R) ∙ good
 
-        pub shown : {d e : Draw} {v : Vector2} → r ≡ Of d → v ≡ floatPosition x y → e ≡ transformOf o v d → Right (shapeIs e)
+        pub shown : {d e : Draw} {v : Vector2} → r ≡ Of d → v ≡ floatPosition x y → e ≡ transformOf (eighth o) v d → Right (shapeIs e)
         shown {d} e f w =
-            ap shapeIs (w ∙ (λ j. transformOf o (f j) d))
-            ∙ asked-at (transformOf o (floatPosition x y)) (drawsOf kind a b) i d (sym (ap chosen e) ∙ R)
+            ap shapeIs (w ∙ (λ j. transformOf (eighth o) (f j) d))
+            ∙ asked-at (transformOf (eighth o) (floatPosition x y)) (drawsOf kind a b) i d (sym (ap chosen e) ∙ R)
             ∙ good

@@ -6,6 +6,7 @@ use mathlib.Core.Bool.{Bool, cond}
 use mathlib.Core.List.{List}
 use lib.IntN.{ℤ}
 use Rattle.orientation.specs.declared.RotMirror.{RotMirror}
+use Rattle.orientation.specs.Orientations.{eighth}
 use Rattle.label.specs.declared.Label.{Label}
 use Rattle.draw.specs.Answers.{shapeIs, asked}
 use Rattle.draw.specs.Bound.{CloseDraw, CloseMark}
@@ -21,7 +22,7 @@ pub record Shown (o : RotMirror) (x y : ℤ) (i : ℕ) (ds : List Draw) (r : Dra
 
 -- each shape of a component is drawn close to that of its symbol
 abbrev pub ComponentClose : Type 0
-ComponentClose = (kind : ℕ) (o : RotMirror) (x y : ℤ) (label : Label) (i : ℕ) (a b : Bool) (r : Draw) → componentShape kind o x y label i a b ≡ shapeIs r → Shown o x y i (drawsOf kind a b) r
+ComponentClose = (kind n : ℕ) (x y : ℤ) (label : Label) (i : ℕ) (a b : Bool) (r : Draw) → componentShape kind n x y label i a b ≡ shapeIs r → Shown (eighth n) x y i (drawsOf kind a b) r
 
 -- a wire's mark goes from one of its ends to the other
 abbrev pub WireMark : Bool → ℤ → ℤ → ℤ → Draw → Type 0

@@ -7,7 +7,7 @@ use lib.IntN.{ℤ}
 use lib.Signed.{ltZ}
 use Rattle.edge.specs.Coordinates.{ranged}
 use Rattle.symbol.specs.Symbols.{knownSymbol}
-use Rattle.orientation.specs.declared.RotMirror.{RotMirror}
+use Rattle.orientation.specs.Orientations.{eighth}
 use Rattle.label.specs.Labels.{heldLabel}
 use Rattle.label.specs.declared.Label.{Label}
 use Rattle.cad.specs.Answers.{refusedShape}
@@ -17,12 +17,12 @@ use Rattle.draw.specs.Transforms.{floatPosition, transformOf}
 use Rattle.draw.specs.declared.Draw.the-variants.{Line, Circle}
 
 -- "past the last the reply is "no shape", and for a bad component, checked first, it is 4, 1 or 5."
-unfoldable pub componentShape : ℕ → RotMirror → ℤ → ℤ → Label → ℕ → Bool → Bool → Answer
-componentShape kind o x y label i a b =
-    cond (knownSymbol kind o)
+unfoldable pub componentShape : ℕ → ℕ → ℤ → ℤ → Label → ℕ → Bool → Bool → Answer
+componentShape kind n x y label i a b =
+    cond (knownSymbol kind n)
     (cond (ranged 5800 x && ranged 5800 y)
     (cond (eqb (heldLabel label .reply) 0)
-    (asked i (map (transformOf o (floatPosition x y)) (drawsOf kind a b)))
+    (asked i (map (transformOf (eighth n) (floatPosition x y)) (drawsOf kind a b)))
     (refusedShape 5))
     (refusedShape 1))
     (refusedShape 4)

@@ -3,14 +3,15 @@ ghost use mathlib.Core.Path.{_≡_};
 ghost use Prim.Native.Nat.{_≤_};
 ghost use lib.IntN.{natAbs};
 ghost use Rattle.edge.specs.Coordinates.{ranged};
-ghost use Rattle.draw.specs.Transforms.{floatPosition};
+ghost use Rattle.orientation.specs.Orientations.{eighth};
+ghost use Rattle.draw.specs.Transforms.{floatPosition, transformOf};
 ghost use Rattle.cad.specs.Answers.{shapeAnswer};
 ghost use Rattle.cad.specs.Shapes.{componentShape, wireShape, junctionShape};
 use draw::Choice;
 use draw::Draw;
 use draw::Vector2;
 use label::Label;
-use orientation::RotMirror;
+use orientation::numbered;
 
 // The answer to a call for a shape: the shape, no shape, or a refusal.
 pub enum Shape {
@@ -53,20 +54,20 @@ fn convert(x: i32, y: i32) -> Vector2
     }
 }
 
-// Shape i of a component, by the order of symbol.rs. a and b are a contact's A and B, and a is a coil's state.
-pub fn component(
-    kind: u8,
-    o: RotMirror,
-    x: i32,
-    y: i32,
-    label: Label,
-    i: usize,
-    a: bool,
-    b: bool,
-) -> Shape
-    ensures { λ r. ⌜ shapeAnswer r ≡ componentShape kind o x y label i a b ⌝ }
+// A shape turned by the orientation of a number, and moved.
+fn turned(d: Draw, n: u8, t: Vector2) -> Draw
+    ensures { λ r. ⌜ r ≡ transformOf (eighth n) t d ⌝ }
 {
-    if !symbol::is_known(kind, o) {
+    let f = numbered(n);
+    let o = f.turn;
+    d.transform(o, t)
+}
+
+// Shape i of a component, by the order of symbol.rs. a and b are a contact's A and B, and a is a coil's state.
+pub fn component(kind: u8, n: u8, x: i32, y: i32, label: Label, i: usize, a: bool, b: bool) -> Shape
+    ensures { λ r. ⌜ shapeAnswer r ≡ componentShape kind n x y label i a b ⌝ }
+{
+    if !symbol::is_known(kind, n) {
         return Shape::Unknown;
     }
     if !(is_position(x) & is_position(y)) {
@@ -77,7 +78,7 @@ pub fn component(
         return Shape::Mislabelled;
     }
     match draw::shape(kind, i, a, b) {
-        Choice::Of(d) => Shape::Drawn(d.transform(o, convert(x, y))),
+        Choice::Of(d) => Shape::Drawn(turned(d, n, convert(x, y))),
         Choice::Nothing => Shape::NoShape,
     }
 }

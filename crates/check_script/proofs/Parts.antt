@@ -15,9 +15,8 @@ use Rattle.script.specs.Reading.{Front, found, missing, then, ending}
 use Rattle.script.proofs.Parts.{Stops, end, space, behind-by, field-by, field-is}
 use Rattle.check_script.specs.declared.Said.{Said}
 use Rattle.check_script.specs.declared.Said.the-variants.{Unreadable}
-use Rattle.orientation.specs.declared.RotMirror.{RotMirror}
-use Rattle.check_script.specs.Grammar.{IsHeld, holds, IsSign, IsDirection, horizontal, vertical}
-use Rattle.check_script.specs.Reading.{fitted, fittedField, signOf, turnOf, verticalOf, directionOf, labelledRow}
+use Rattle.check_script.specs.Grammar.{IsHeld, holds, IsDirection, horizontal, vertical}
+use Rattle.check_script.specs.Reading.{fitted, fittedField, verticalOf, directionOf, labelledRow}
 
 by-test : {B : Type 0} (P : B → Type 0) (b : Bool) {x y : B} → (b ≡ true → P x) → P y → P (cond b x y)
 by-test P true is not = is refl
@@ -38,18 +37,6 @@ module _ {B : Type 0} (P : B → Type 0) {e : B} (not : P e) (s : List ℕ) wher
       behind-by C (byte " ") s
       (λ u q. behind-by C (byte "h") u (λ r p. is "h" false r horizontal (q ∙ ap (λ l. byte " " ∷ l) p))
       (behind-by C (byte "v") u (λ r p. is "v" true r vertical (q ∙ ap (λ l. byte " " ∷ l) p)) not)) not
-
-module _ {B : Type 0} (P : B → Type 0) {e : B} (not : P e) (s : List ℕ) where
-  pub turn-by : {g : RotMirror → List ℕ → B}
-      → ((A B C D rest : List ℕ) (o : RotMirror) → IsSign A (o .0) → IsSign B (o .1) → IsSign C (o .2) → IsSign D (o .3) → s ≡ [] ␣ A ␣ B ␣ C ␣ D ++ rest → P (g o rest))
-      → P (then (turnOf s) g e)
-  unfolding turnOf
-  turn-by {g} is =
-      let R : Front RotMirror → Type 0 = λ r. P (then r g e) in
-      held-by R not s (λ A s1 a ga e1.
-      held-by R not s1 (λ B s2 b gb e2.
-      held-by R not s2 (λ C s3 c gc e3.
-      held-by R not s3 (λ D s4 d gd e4. is A B C D s4 (a, b, c, d) ga gb gc gd (rw (e1, e2, e3, e4))))))
 
 module _ (P : Said → Type 0) (not : P Unreadable) where
   pub ending-by : (rest : List ℕ) {k : Said} → (rest ≡ [] → P k) → P (ending Unreadable k rest)
@@ -81,12 +68,6 @@ pub direction-is : {d : Char} {v : Bool} (rest : List ℕ) → IsDirection d v �
 unfolding directionOf verticalOf
 direction-is rest horizontal = refl
 direction-is rest vertical = refl
-
-module _ {A B C D rest : List ℕ} {a b c d : ℤ} where
-  pub turn-is : IsSign A a → IsSign B b → IsSign C c → IsSign D d → Stops rest → turnOf ([] ␣ A ␣ B ␣ C ␣ D ++ rest) ≡ found (a, b, c, d) rest
-  unfolding turnOf
-  turn-is ga gb gc gd stops =
-      rw (held-is (space {s = B ␣ C ␣ D ++ rest}) ga, held-is (space {s = C ␣ D ++ rest}) gb, held-is (space {s = D ++ rest}) gc, held-is stops gd)
 
 pub label-stops : {rest label : List ℕ} → HasLabel rest label → Stops rest
 label-stops none = end

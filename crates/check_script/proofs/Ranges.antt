@@ -10,7 +10,7 @@ use lib.IntN.{ℤ, pos, negsuc, negℤ, natAbs, subℕ, _+ℤ_}
 use lib.Signed.{ltZ, nonNeg, mag}
 use mir.Syntax.{w8, w16, w32}
 use mir.Val.{SFits, Fits, toZ, ofZ}
-use mir.Facts.{toZ-ofZ, toZ-pos}
+use mir.Facts.{toZ-pos}
 use Rattle.edge.specs.Coordinates.{toℕ, biased}
 use Rattle.edge.proofs.Whole.{sub-pos}
 use Rattle.script.specs.Reading.{Front, found, missing, fieldOf}
@@ -104,20 +104,19 @@ module _ (z : ℤ) (m : mag z < 2 ^ 31) (l : ltZ (toZ w32 (ofZ w32 z)) (pos 0) �
   pub whole-is : natAbs (toZ w32 (ofZ w32 z)) ≡ toℕ z
   whole-is = rw (back z m) (inside .1)
 
--- ---- a number of 8 bits with its sign
+-- ---- the same of 8 bits
 
-small : (z : ℤ) → fitted 128 127 z ≡ true → SFits w8 z
+byte-sized : (z : ℤ) → fitted 0 255 z ≡ true → T (nonNeg z) × (natAbs z ≡ toℕ z) × (natAbs z ≤ 255)
 unfolding fitted
-small (pos n) r = let h = leb-true n 127 r in record { sfits = omega arith }
-small (negsuc n) r = let h = ltb-true n 128 r in record { sfits = omega arith }
+byte-sized (pos n) r = (tt, refl, leb-true n 255 r)
+byte-sized (negsuc n) r = absurd (let h = ltb-true n 0 r in let y : ⊥ = omega arith in y)
 
-module _ (z : ℤ) (m : mag z < 2 ^ 31) (l : ltZ (toZ w32 (ofZ w32 z)) (negℤ (pos 128)) ≡ false) (h : ltZ (pos 127) (toZ w32 (ofZ w32 z)) ≡ false) where
-  pub sign-cast : SFits w8 (toZ w32 (ofZ w32 z))
-  sign-cast = rw (back z m) (small z (between 128 127 z (rw (back z m) at l) (rw (back z m) at h)))
+module _ (z : ℤ) (m : mag z < 2 ^ 31) (l : ltZ (toZ w32 (ofZ w32 z)) (pos 0) ≡ false) (h : ltZ (pos 255) (toZ w32 (ofZ w32 z)) ≡ false) where
+  in-byte : T (nonNeg z) × (natAbs z ≡ toℕ z) × (natAbs z ≤ 255)
+  in-byte = byte-sized z (between 0 255 z (rw (back z m) at l) (rw (back z m) at h))
 
-  pub sign-is : toZ w8 (ofZ w8 (toZ w32 (ofZ w32 z))) ≡ z
-  sign-is = toZ-ofZ sign-cast ∙ back z m
+  pub byte-cast : T (nonNeg (toZ w32 (ofZ w32 z))) × Fits w8 (natAbs (toZ w32 (ofZ w32 z)))
+  byte-cast = let k = in-byte .2 in rw (back z m) (in-byte .0, record { fits = omega arith })
 
--- such a number, handed on, comes out of its bits as it was
-pub back8 : (z : ℤ) → mag z < 2 ^ 7 → toZ w8 (ofZ w8 z) ≡ z
-back8 z h = toZ-ofZ (record { sfits = h })
+  pub byte-is : natAbs (toZ w32 (ofZ w32 z)) ≡ toℕ z
+  byte-is = rw (back z m) (in-byte .1)

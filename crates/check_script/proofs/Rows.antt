@@ -13,7 +13,7 @@ use Rattle.check_script.specs.declared.Said.{Said}
 use Rattle.check_script.specs.declared.Said.the-variants.{Component, Unreadable}
 use Rattle.check_script.specs.Grammar.{IsRow, wire, component, joint}
 use Rattle.check_script.specs.Reading.{wireOf, jointOf, standsOf, componentOf, rowOf}
-use Rattle.check_script.proofs.Parts.{held-by, direction-by, turn-by, ending-by, label-by, held-is, held-last, direction-is, turn-is, label-stops, label-is}
+use Rattle.check_script.proofs.Parts.{held-by, direction-by, ending-by, label-by, held-is, held-last, direction-is, label-stops, label-is}
 
 module _ (n : ℕ) (back : Bool) (s : List ℕ) (fit : length s ≤ n) (P : Said → Type 0) (ok : (k : Said) → IsRow n back s k → P k) (bad : P Unreadable) where
   wire-by : (t : List ℕ) → s ≡ byte "W" ∷ t → P (wireOf back t)
@@ -37,12 +37,12 @@ module _ (n : ℕ) (back : Bool) (s : List ℕ) (fit : length s ≤ n) (P : Said
   unfolding componentOf standsOf
   component-by t e0 =
       held-by P bad t (λ K s1 kind gk e1. choose (leb-reads kind 255) P (λ le.
-      turn-by P bad s1 (λ A B C D s2 o ga gb gc gd e2.
+      held-by P bad s1 (λ O s2 o go e2.
       held-by P bad s2 (λ X s3 x gx e3.
       held-by P bad s3 (λ Y s4 y gy e4.
-      let all : s ≡ bytes "C" ␣ K ␣ A ␣ B ␣ C ␣ D ␣ X ␣ Y ++ s4 = rw (e0, e1, e2, e3, e4) in
+      let all : s ≡ bytes "C" ␣ K ␣ O ␣ X ␣ Y ++ s4 = rw (e0, e1, e2, e3, e4) in
       label-by P bad n s4 (omega (arith, simp length-append at (ap length all)))
-      (λ label at is few here. ok _ (component gk le ga gb gc gd gx gy is few all here)))))) (λ m. bad))
+      (λ label at is few here. ok _ (component gk le go gx gy is few all here)))))) (λ m. bad))
 
   pub row-by : P (rowOf n back s)
   unfolding rowOf
@@ -52,12 +52,12 @@ pub row-is : {n : ℕ} {back : Bool} {s : List ℕ} {k : Said} → IsRow n back 
 unfolding rowOf wireOf componentOf standsOf jointOf
 row-is (wire {LINE = L} {START = A} {END = E} dir gl ga ge e) =
     rw (e, direction-is (byte " " ∷ (L ␣ A ␣ E)) dir, held-is (space {s = A ␣ E}) gl, held-is (space {s = E}) ga, held-last ge)
-row-is {n} {back} (component {A = A} {B = B} {C = C} {D = D} {X = X} {Y = Y} {rest = rest} gk le ga gb gc gd gx gy l few e at) =
+row-is {n} {back} (component {ORIENT = O} {X = X} {Y = Y} {rest = rest} gk le go gx gy l few e at) =
     rw (
       e,
-      held-is (space {s = A ␣ B ␣ C ␣ D ␣ X ␣ Y ++ rest}) gk,
+      held-is (space {s = O ␣ X ␣ Y ++ rest}) gk,
       le-leb _ _ le,
-      turn-is ga gb gc gd (space {s = X ␣ Y ++ rest}),
+      held-is (space {s = X ␣ Y ++ rest}) go,
       held-is (space {s = Y ++ rest}) gx,
       held-is (label-stops l) gy,
     ) (label-is n (Component back _ _ _ _) l few at)
@@ -66,5 +66,5 @@ row-is (joint {X = X} {Y = Y} {COUNT = N} gx gy gc e) = rw (e, held-is (space {s
 -- no row says `Unreadable`
 pub row-readable : {n : ℕ} {back : Bool} {s : List ℕ} {k : Said} → IsRow n back s k → k ≡ Unreadable → ⊥
 row-readable (wire dir gl ga ge e) u = clash refl (cc)
-row-readable (component gk le ga gb gc gd gx gy l few e at) u = clash refl (cc)
+row-readable (component gk le go gx gy l few e at) u = clash refl (cc)
 row-readable (joint gx gy gc e) u = clash refl (cc)

@@ -26,25 +26,25 @@ IsCoordinate t n = IsHeld 6000 59535 biased t n
 abbrev pub IsNatural : List ℕ → ℕ → Type 0
 IsNatural t n = IsHeld 0 65535 toℕ t n
 
--- a signed number of 8 bits
-abbrev pub IsSign : List ℕ → ℤ → Type 0
-IsSign t z = IsHeld 128 127 (λ y. y) t z
+-- a number of 8 bits
+abbrev pub IsByte : List ℕ → ℕ → Type 0
+IsByte t n = IsHeld 0 255 toℕ t n
 
 -- "Direction of a wire: a yes or no, no for horizontal"
 pub data IsDirection : Char → Bool → Type 0 where
   horizontal : IsDirection "h" false
   vertical : IsDirection "v" true
 
--- the rows: `W h LINE START END`, `C KIND A B C D X Y` with a label or not, `J X Y COUNT`. `back`: the row stands behind the counts. The
+-- the rows: `W h LINE START END`, `C KIND ORIENT X Y` with a label or not, `J X Y COUNT`. `back`: the row stands behind the counts. The
 -- label begins at the index `at` of a line of n bytes.
 pub data IsRow (n : ℕ) (back : Bool) (s : List ℕ) : Said → Type 0 where
   wire : {d : Char} {v : Bool} {LINE START END : List ℕ} {l a e : ℕ}
       → IsDirection d v → IsCoordinate LINE l → IsCoordinate START a → IsCoordinate END e → s ≡ bytes "W" ␣ (byte d ∷ []) ␣ LINE ␣ START ␣ END
       → IsRow n back s (Wire back (record { vertical = v; line = l; start = a; end = e }))
-  component : {KIND A B C D X Y rest label : List ℕ} {kind x y at : ℕ} {a b c d : ℤ}
-      → IsNatural KIND kind → kind ≤ 255 → IsSign A a → IsSign B b → IsSign C c → IsSign D d → IsCoordinate X x → IsCoordinate Y y
-      → HasLabel rest label → length label ≤ 16 → s ≡ bytes "C" ␣ KIND ␣ A ␣ B ␣ C ␣ D ␣ X ␣ Y ++ rest → at + length label ≡ n
-      → IsRow n back s (Component back kind (a, b, c, d) x y at)
+  component : {KIND ORIENT X Y rest label : List ℕ} {kind o x y at : ℕ}
+      → IsNatural KIND kind → kind ≤ 255 → IsByte ORIENT o → IsCoordinate X x → IsCoordinate Y y
+      → HasLabel rest label → length label ≤ 16 → s ≡ bytes "C" ␣ KIND ␣ ORIENT ␣ X ␣ Y ++ rest → at + length label ≡ n
+      → IsRow n back s (Component back kind o x y at)
   joint : {X Y COUNT : List ℕ} {x y c : ℕ}
       → IsCoordinate X x → IsCoordinate Y y → IsNatural COUNT c → s ≡ bytes "J" ␣ X ␣ Y ␣ COUNT
       → IsRow n back s (Joint back (record { x = x; y = y; count = c }))

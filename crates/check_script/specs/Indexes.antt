@@ -1,15 +1,11 @@
--- What the functions on an index of a line tell ("Orientation: four signed numbers"), as the text from that index on.
+-- What the functions on an index of a line tell, as the text from that index on.
 use mathlib.Core.Bool.{Bool}
 use mathlib.Core.List.{List}
 use Prim.Native.Nat.{ℕ}
 use lib.ListN.{drop}
-use lib.IntN.{ℤ}
-use Rattle.orientation.specs.declared.RotMirror.{RotMirror}
 use Rattle.script.specs.Reading.{Front, found, missing}
 use Rattle.check_script.specs.declared.fields.Natural.{Natural}
 use Rattle.check_script.specs.declared.fields.Natural.the-variants.{Read, Missing}
-use Rattle.check_script.specs.declared.fields.Sign.{Sign}
-use Rattle.check_script.specs.declared.fields.Sign.the-variants.{Of, None}
 use Rattle.check_script.specs.declared.fields.Turn.{Turn}
 use Rattle.check_script.specs.declared.fields.Turn.the-variants.{Is, IsNot}
 use Rattle.check_script.specs.declared.fields.Direction.{Direction}
@@ -20,13 +16,8 @@ abbrev pub naturalFound : List ℕ → Natural → Front ℕ
 naturalFound line (Read n next) = found n (drop next line)
 naturalFound line Missing = missing
 
--- a signed number of 8 bits
-abbrev pub signFound : List ℕ → Sign → Front ℤ
-signFound line (Of z next) = found z (drop next line)
-signFound line None = missing
-
--- four of these
-abbrev pub turnFound : List ℕ → Turn → Front RotMirror
+-- a number of 8 bits
+abbrev pub turnFound : List ℕ → Turn → Front ℕ
 turnFound line (Is o next) = found o (drop next line)
 turnFound line IsNot = missing
 

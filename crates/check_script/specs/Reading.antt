@@ -6,7 +6,6 @@ use lib.ListN.{length}
 use lib.IntN.{ℤ, pos, negsuc}
 use lib.Dec.{leb, ltb, eqb}
 use Rattle.edge.specs.Coordinates.{toℕ, biased}
-use Rattle.orientation.specs.declared.RotMirror.{RotMirror}
 use Rattle.script.specs.Grammar.{byte}
 use Rattle.script.specs.Reading.{Front, found, missing, then, afterByte, fieldOf, ending}
 use Rattle.check_script.specs.declared.Said.{Said}
@@ -31,14 +30,9 @@ coordinateOf s = fittedField 6000 59535 biased s
 abbrev pub naturalOf : List ℕ → Front ℕ
 naturalOf s = fittedField 0 65535 toℕ s
 
--- a signed number of 8 bits
-abbrev pub signOf : List ℕ → Front ℤ
-signOf s = fittedField 128 127 (λ z. z) s
-
--- four of these
-unfoldable pub turnOf : List ℕ → Front RotMirror
-turnOf s =
-    then (signOf s) (λ a s. then (signOf s) (λ b s. then (signOf s) (λ c s. then (signOf s) (λ d. found (record { 0 = a; 1 = b; 2 = c; 3 = d })) missing) missing) missing) missing
+-- a number of 8 bits: an orientation by its number, or none
+abbrev pub turnOf : List ℕ → Front ℕ
+turnOf s = fittedField 0 255 toℕ s
 
 -- ---- rows
 

@@ -1,9 +1,8 @@
 // Numbers of a line that a row can hold, each read from an index of the line on.
 ghost use mathlib.Core.Path.{_≡_};
 ghost use lib.ListN.{drop};
-ghost use Rattle.check_script.specs.Reading.{coordinateOf, naturalOf, signOf, turnOf, verticalOf, directionOf};
-ghost use Rattle.check_script.specs.Indexes.{naturalFound, signFound, turnFound, directionFound};
-use orientation::RotMirror;
+ghost use Rattle.check_script.specs.Reading.{coordinateOf, naturalOf, turnOf, verticalOf, directionOf};
+ghost use Rattle.check_script.specs.Indexes.{naturalFound, turnFound, directionFound};
 use script::numbers;
 use script::numbers::Numeral;
 
@@ -13,15 +12,9 @@ pub enum Natural {
     Missing,
 }
 
-// A number of 8 bits with its sign, and the index behind it.
-pub enum Sign {
-    Of(i8, usize),
-    None,
-}
-
-// Four of these.
+// A number of 8 bits, and the index behind it.
 pub enum Turn {
-    Is(RotMirror, usize),
+    Is(u8, usize),
     IsNot,
 }
 
@@ -64,38 +57,19 @@ pub fn natural_at(line: &[u8], at: usize) -> Natural
 }
 
 // A space and a number of 8 bits.
-pub fn sign_at(line: &[u8], at: usize) -> Sign
-    ensures { λ r. ⌜ signFound (now (line .entry)) r ≡ signOf (drop at (now (line .entry))) ⌝ }
-{
-    let Numeral::Read(z, next) = numbers::field_at(line, at) else {
-        return Sign::None;
-    };
-    if z < -128 {
-        return Sign::None;
-    }
-    if 127 < z {
-        return Sign::None;
-    }
-    Sign::Of(z as i8, next)
-}
-
-// Four of these.
 pub fn turn_at(line: &[u8], at: usize) -> Turn
     ensures { λ r. ⌜ turnFound (now (line .entry)) r ≡ turnOf (drop at (now (line .entry))) ⌝ }
 {
-    let Sign::Of(a, k) = sign_at(line, at) else {
+    let Numeral::Read(z, next) = numbers::field_at(line, at) else {
         return Turn::IsNot;
     };
-    let Sign::Of(b, l) = sign_at(line, k) else {
+    if z < 0 {
         return Turn::IsNot;
-    };
-    let Sign::Of(c, m) = sign_at(line, l) else {
+    }
+    if 255 < z {
         return Turn::IsNot;
-    };
-    let Sign::Of(d, next) = sign_at(line, m) else {
-        return Turn::IsNot;
-    };
-    Turn::Is(RotMirror(a, b, c, d), next)
+    }
+    Turn::Is(z as u8, next)
 }
 
 // `h` or `v`.

@@ -9,7 +9,6 @@ ghost use Rattle.check_script.specs.Reading.{wireOf, jointOf, labelledRo
 use fields::Direction;
 use fields::Natural;
 use fields::Turn;
-use orientation::RotMirror;
 use script::numbers;
 use script::numbers::Numeral;
 use sheet::Joint;
@@ -24,7 +23,7 @@ pub enum Said {
     Component {
         behind: bool,
         kind: u8,
-        turn: RotMirror,
+        turn: u8,
         x: u16,
         y: u16,
         label: usize,
@@ -89,15 +88,7 @@ fn joint_row(line: &[u8], at: usize, behind: bool) -> Said
 }
 
 // A component's row whose numbers end at `at`: its label starts there or behind a space.
-fn labelled_row(
-    line: &[u8],
-    at: usize,
-    behind: bool,
-    kind: u8,
-    turn: RotMirror,
-    x: u16,
-    y: u16,
-) -> Said
+fn labelled_row(line: &[u8], at: usize, behind: bool, kind: u8, turn: u8, x: u16, y: u16) -> Said
     ensures { λ r. ⌜ r ≡ labelledRow (length (now (line .entry))) (Component behind kind turn x y) (drop at (now (line .entry))) ⌝ }
 {
     let len = line.len();
@@ -130,7 +121,7 @@ fn labelled_row(
 }
 
 // A component's position and label.
-fn standing_row(line: &[u8], at: usize, behind: bool, kind: u8, turn: RotMirror) -> Said
+fn standing_row(line: &[u8], at: usize, behind: bool, kind: u8, turn: u8) -> Said
     ensures { λ r. ⌜ r ≡ standsOf (length (now (line .entry))) (Component behind kind turn) (drop at (now (line .entry))) ⌝ }
 {
     let Natural::Read(x, k) = fields::coordinate_at(line, at) else {

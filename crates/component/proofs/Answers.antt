@@ -12,8 +12,7 @@ use mir.Val.{SFits, toZ, ofZ}
 use mir.Facts.{toZ-ofZ}
 use borrow.Author.Tests.{leb-true}
 use Rattle.lists.proofs.Tests.{agree, both-l, both-r}
-use Rattle.orientation.specs.Orientations.{known}
-use Rattle.orientation.specs.declared.RotMirror.{RotMirror}
+use Rattle.orientation.specs.Orientations.{eighth}
 use Rattle.edge.specs.Coordinates.{coordOf, biased, ranged, biasedWithin, insideOf}
 use Rattle.edge.specs.declared.Found.{Found}
 use Rattle.edge.proofs.Places.{back, narrow-test}
@@ -55,7 +54,7 @@ by-reply true true f g h i = g tt tt
 by-reply true false f g h i = h
 by-reply false p f g h i = i
 
-module _ (kind : ℕ) (o : RotMirror) (x y : ℤ) where
+module _ (kind : ℕ) (o : ℕ) (x y : ℤ) where
   reply : cond (knownSymbol kind o) (cond (ranged 5800 x && ranged 5800 y) 0 1) 4 ≡ refusalOf kind o (heldOf x) (heldOf y)
   reply = refuse kind o (heldOf x) (heldOf y) (knownSymbol kind o) (ranged 5800 x && ranged 5800 y) refl (λ i. held-test x i && held-test y i)
 
@@ -64,12 +63,12 @@ module _ (kind : ℕ) (o : RotMirror) (x y : ℤ) where
     sound : Positioned o (heldOf x) (heldOf y)
     sound = tests-placeable kind o (heldOf x) (heldOf y) k (subst T (sym (λ i. held-test x i && held-test y i)) p) .sound
 
-    point : (q : Offset) → T (near q) → shownOf (movedOf o (heldOf x) (heldOf y) q) true ≡ positionOf o x y q
+    point : (q : Offset) → T (near q) → shownOf (movedOf (eighth o) (heldOf x) (heldOf y) q) true ≡ positionOf (eighth o) x y q
     point q t =
         let h = exact o (heldOf x) (heldOf y) sound q t in
         λ i. record {
-          x = (h .in-x ∙ (λ j. held-back x (both-l (ranged 5800 x) (ranged 5800 y) p) j +ℤ applied o q .dx)) i;
-          y = (h .in-y ∙ (λ j. held-back y (both-r (ranged 5800 x) (ranged 5800 y) p) j +ℤ applied o q .dy)) i;
+          x = (h .in-x ∙ (λ j. held-back x (both-l (ranged 5800 x) (ranged 5800 y) p) j +ℤ applied (eighth o) q .dx)) i;
+          y = (h .in-y ∙ (λ j. held-back y (both-r (ranged 5800 x) (ranged 5800 y) p) j +ℤ applied (eighth o) q .dy)) i;
         }
 
 -- ---- the pads
@@ -80,8 +79,8 @@ shownPads r = record {
   count = r .pads .count;
 }
 
-pads-right : (kind : ℕ) (o : RotMirror) (x y : ℤ) → T (knownSymbol kind o) → T (ranged 5800 x && ranged 5800 y)
-    → shownPads (padsFor 0 (padBlock kind o (heldOf x) (heldOf y))) ≡ answer 0 (map (positionOf o x y) (padsAt kind))
+pads-right : (kind : ℕ) (o : ℕ) (x y : ℤ) → T (knownSymbol kind o) → T (ranged 5800 x && ranged 5800 y)
+    → shownPads (padsFor 0 (padBlock kind (eighth o) (heldOf x) (heldOf y))) ≡ answer 0 (map (positionOf (eighth o) x y) (padsAt kind))
 pads-right zero o x y k p = let at = point 0 o x y k p in λ i. record { reply = 0; points = at (off (pos 0) (pos 0)) tt i ∷ origin ∷ origin ∷ []; count = 1 }
 pads-right (suc zero) o x y k p = let at = point 1 o x y k p in λ i. record { reply = 0; points = at (off (pos 0) (minus 100)) tt i ∷ at (off (minus 50) (pos 100)) tt i ∷ at (off (pos 50) (pos 100)) tt i ∷ []; count = 3 }
 pads-right (suc (suc n)) o x y k p = let at = point (suc (suc n)) o x y k p in λ i. record { reply = 0; points = at (off (pos 0) (minus 100)) tt i ∷ origin ∷ origin ∷ []; count = 1 }
@@ -90,11 +89,11 @@ pads-right (suc (suc n)) o x y k p = let at = point (suc (suc n)) o x y k p in �
 abbrev shownBox : BoundsReply → BoxAnswer
 shownBox r = record { reply = r .reply; low = shownOf (r .bounds .low) (eqb (r .reply) 0); high = shownOf (r .bounds .high) (eqb (r .reply) 0) }
 
-module _ (kind : ℕ) (o : RotMirror) (x y : ℤ) where
+module _ (kind : ℕ) (o : ℕ) (x y : ℤ) where
   abbrev at : Offset → Point
-  at q = movedOf o (heldOf x) (heldOf y) q
+  at q = movedOf (eighth o) (heldOf x) (heldOf y) q
 
-  box-right : T (knownSymbol kind o) → T (ranged 5800 x && ranged 5800 y) → shownBox (boundsFor 0 (boundsAt kind o (heldOf x) (heldOf y))) ≡ spanned (positionOf o x y (lowAt kind)) (positionOf o x y (highAt kind))
+  box-right : T (knownSymbol kind o) → T (ranged 5800 x && ranged 5800 y) → shownBox (boundsFor 0 (boundsAt kind (eighth o) (heldOf x) (heldOf y))) ≡ spanned (positionOf (eighth o) x y (lowAt kind)) (positionOf (eighth o) x y (highAt kind))
   box-right k p =
       (λ i. record {
         reply = 0;
@@ -107,13 +106,13 @@ module _ (kind : ℕ) (o : RotMirror) (x y : ℤ) where
   pads-shown : shownPads (padsReplyOf kind o (heldOf x) (heldOf y)) ≡ componentPadsOf kind o x y
   unfolding padsReplyOf componentPadsOf
   pads-shown =
-      let f : ℕ → PadsAnswer = λ n. shownPads (padsFor n (padBlock kind o (heldOf x) (heldOf y))) in
+      let f : ℕ → PadsAnswer = λ n. shownPads (padsFor n (padBlock kind (eighth o) (heldOf x) (heldOf y))) in
       ap f (sym (reply kind o x y)) ∙ by-reply (knownSymbol kind o) (ranged 5800 x && ranged 5800 y) f (pads-right kind o x y) refl refl
 
   box-shown : shownBox (aabbOf kind o (heldOf x) (heldOf y)) ≡ componentBoxOf kind o x y
   unfolding aabbOf componentBoxOf
   box-shown =
-      let f : ℕ → BoxAnswer = λ n. shownBox (boundsFor n (boundsAt kind o (heldOf x) (heldOf y))) in
+      let f : ℕ → BoxAnswer = λ n. shownBox (boundsFor n (boundsAt kind (eighth o) (heldOf x) (heldOf y))) in
       ap f (sym (reply kind o x y)) ∙ by-reply (knownSymbol kind o) (ranged 5800 x && ranged 5800 y) f box-right refl refl
 
   -- ---- what `component_pads` and `component_box` return, by what their calls ensure

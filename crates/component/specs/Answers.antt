@@ -6,6 +6,7 @@ use lib.IntN.{ℤ, pos, _+ℤ_}
 use lib.Signed.{leZ}
 use lib.ListN.{length, take}
 use Rattle.orientation.specs.declared.RotMirror.{RotMirror}
+use Rattle.orientation.specs.Orientations.{eighth}
 use Rattle.edge.specs.Coordinates.{coordOf, biased, ranged}
 use Rattle.symbol.specs.declared.Point.{Point}
 use Rattle.symbol.specs.Symbols.{Offset, applied, knownSymbol, padsAt, lowAt, highAt}
@@ -27,8 +28,8 @@ answer n ps = record { reply = n; points = take 3 (ps ++ (origin ∷ origin ∷ 
 
 -- "Component position: −5,800 to 5,800." "A box, pads or a turn asked of a bad kind, orientation or position get 4 or 1, in that order,
 -- and zeros for every number."
-unfoldable pub componentPadsOf : ℕ → RotMirror → ℤ → ℤ → PadsAnswer
-componentPadsOf kind o x y = cond (knownSymbol kind o) (cond (ranged 5800 x && ranged 5800 y) (answer 0 (map (positionOf o x y) (padsAt kind))) (answer 1 [])) (answer 4 [])
+unfoldable pub componentPadsOf : ℕ → ℕ → ℤ → ℤ → PadsAnswer
+componentPadsOf kind n x y = cond (knownSymbol kind n) (cond (ranged 5800 x && ranged 5800 y) (answer 0 (map (positionOf (eighth n) x y) (padsAt kind))) (answer 1 [])) (answer 4 [])
 
 -- the lesser of two whole numbers
 abbrev pub minZ : ℤ → ℤ → ℤ
@@ -47,8 +48,8 @@ abbrev pub noBox : ℕ → BoxAnswer
 noBox n = record { reply = n; low = origin; high = origin }
 
 -- the box, or 4 or 1
-unfoldable pub componentBoxOf : ℕ → RotMirror → ℤ → ℤ → BoxAnswer
-componentBoxOf kind o x y = cond (knownSymbol kind o) (cond (ranged 5800 x && ranged 5800 y) (spanned (positionOf o x y (lowAt kind)) (positionOf o x y (highAt kind))) (noBox 1)) (noBox 4)
+unfoldable pub componentBoxOf : ℕ → ℕ → ℤ → ℤ → BoxAnswer
+componentBoxOf kind n x y = cond (knownSymbol kind n) (cond (ranged 5800 x && ranged 5800 y) (spanned (positionOf (eighth n) x y (lowAt kind)) (positionOf (eighth n) x y (highAt kind))) (noBox 1)) (noBox 4)
 
 -- ---- what the functions below the calls return
 

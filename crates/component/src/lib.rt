@@ -1,7 +1,6 @@
 // The pads and the box of a component by its coordinates, whole numbers as document 01 has them.
 ghost use mathlib.Core.Path.{_≡_};
 ghost use Rattle.component.specs.Answers.{componentPadsOf, componentBoxOf, heldOf, shownOf};
-use orientation::RotMirror;
 use symbol::Point;
 
 // A point by its coordinates.
@@ -47,10 +46,10 @@ fn shown(p: Point, used: bool) -> Position
 }
 
 // The pads of a component at (x, y), by their coordinates.
-pub fn component_pads(kind: u8, o: RotMirror, x: i32, y: i32) -> PadsAnswer
-    ensures { λ r. ⌜ r ≡ componentPadsOf kind o x y ⌝ }
+pub fn component_pads(kind: u8, n: u8, x: i32, y: i32) -> PadsAnswer
+    ensures { λ r. ⌜ r ≡ componentPadsOf kind n x y ⌝ }
 {
-    let r = symbol::pads(kind, o, held(x), held(y));
+    let r = symbol::pads(kind, n, held(x), held(y));
     let reply = r.reply;
     let b = r.pads;
     let ps = b.points;
@@ -66,10 +65,10 @@ pub fn component_pads(kind: u8, o: RotMirror, x: i32, y: i32) -> PadsAnswer
 }
 
 // The box of a component at (x, y), by its coordinates.
-pub fn component_box(kind: u8, o: RotMirror, x: i32, y: i32) -> BoxAnswer
-    ensures { λ r. ⌜ r ≡ componentBoxOf kind o x y ⌝ }
+pub fn component_box(kind: u8, n: u8, x: i32, y: i32) -> BoxAnswer
+    ensures { λ r. ⌜ r ≡ componentBoxOf kind n x y ⌝ }
 {
-    let r = symbol::aabb(kind, o, held(x), held(y));
+    let r = symbol::aabb(kind, n, held(x), held(y));
     let reply = r.reply;
     let b = r.bounds;
     let l = b.low;

@@ -3,7 +3,6 @@ use mathlib.Core.Path.{_≡_, refl}
 use mathlib.Core.Bool.{true}
 use mathlib.Core.List.{[], _∷_}
 use lib.ListN.{replicate}
-use Rattle.orientation.specs.Orientations.{eighth, sameOf, numberOf}
 use Rattle.label.specs.Labels.{labelPart}
 use Rattle.text.specs.Text.{digitsIn, decimalOf, signedOf}
 use Rattle.dump.specs.Rows.{countWord, placeWord, labelWord, tallyLine, wireLine, jointLine, componentLine}
@@ -16,7 +15,7 @@ unfolding digitsIn decimalOf signedOf countWord placeWord tallyLine wireLine joi
 rows = (refl, refl, refl)
 
 -- `C 1 7 0 -5 K1`, and `C 0 2 -5 0 ` with its space
-components : (componentLine (record { kind = 1; «rot_mirror» = eighth 7; x = 6000; y = 5995; label = 75 ∷ 49 ∷ replicate 14 0 }) ≡ 67 ∷ 32 ∷ 49 ∷ 32 ∷ 55 ∷ 32 ∷ 48 ∷ 32 ∷ 45 ∷ 53 ∷ 32 ∷ 75 ∷ 49 ∷ 10 ∷ [])
-    × (componentLine (record { kind = 0; «rot_mirror» = eighth 2; x = 5995; y = 6000; label = replicate 16 0 }) ≡ 67 ∷ 32 ∷ 48 ∷ 32 ∷ 50 ∷ 32 ∷ 45 ∷ 53 ∷ 32 ∷ 48 ∷ 32 ∷ 10 ∷ [])
-unfolding digitsIn decimalOf signedOf sameOf numberOf labelPart countWord placeWord labelWord componentLine
+components : (componentLine (record { kind = 1; orientation = 7; x = 6000; y = 5995; label = 75 ∷ 49 ∷ replicate 14 0 }) ≡ 67 ∷ 32 ∷ 49 ∷ 32 ∷ 55 ∷ 32 ∷ 48 ∷ 32 ∷ 45 ∷ 53 ∷ 32 ∷ 75 ∷ 49 ∷ 10 ∷ [])
+    × (componentLine (record { kind = 0; orientation = 2; x = 5995; y = 6000; label = replicate 16 0 }) ≡ 67 ∷ 32 ∷ 48 ∷ 32 ∷ 50 ∷ 32 ∷ 45 ∷ 53 ∷ 32 ∷ 48 ∷ 32 ∷ 10 ∷ [])
+unfolding digitsIn decimalOf signedOf labelPart countWord placeWord labelWord componentLine
 components = (refl, refl)

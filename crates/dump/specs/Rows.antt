@@ -2,12 +2,9 @@
 use Prim.Native.Nat.{ℕ, _+_, _≤_}
 use mathlib.Core.Bool.{Bool, cond}
 use mathlib.Core.List.{List, [], _∷_, _++_}
-use lib.Dec.{eqb}
 use lib.ListN.{length}
 use Rattle.lists.specs.Lists.{gather}
 use Rattle.edge.specs.Coordinates.{coordOf}
-use Rattle.orientation.specs.declared.RotMirror.{RotMirror}
-use Rattle.orientation.specs.Orientations.{NumberReply, numberOf}
 use Rattle.label.specs.Labels.{labelPart}
 use Rattle.sheet.specs.declared.Wire.{Wire}
 use Rattle.sheet.specs.declared.Joint.{Joint}
@@ -31,14 +28,6 @@ placeWord n = 32 ∷ signedOf (coordOf n)
 abbrev pub letterOf : Bool → ℕ
 letterOf vertical = cond vertical 118 104
 
--- the number of an orientation, "0 to 7"; 8 where it has none, as in no lawful drawing
-abbrev pub numberIn : NumberReply → ℕ
-numberIn r = cond (eqb (r .reply) 0) (r .number) 8
-
--- the orientation as scripts have it
-abbrev pub orientNumber : RotMirror → ℕ
-orientNumber o = numberIn (numberOf o)
-
 -- ` <label>`, a space even where the label is empty: "The label comes back as the part before the first zero byte"
 unfoldable pub labelWord : List ℕ → List ℕ
 labelWord bytes = 32 ∷ labelPart bytes
@@ -60,7 +49,7 @@ jointLine j = 74 ∷ (placeWord (j .x) ++ (placeWord (j .y) ++ (countWord (j .co
 -- `C <kind> <orientation> <x> <y> <label>`
 unfoldable pub componentLine : Component → List ℕ
 componentLine c =
-    67 ∷ (countWord (c .kind) ++ (countWord (orientNumber (c .«rot_mirror»)) ++ (placeWord (c .x) ++ (placeWord (c .y) ++ (labelWord (c .label) ++ (10 ∷ []))))))
+    67 ∷ (countWord (c .kind) ++ (countWord (c .orientation) ++ (placeWord (c .x) ++ (placeWord (c .y) ++ (labelWord (c .label) ++ (10 ∷ []))))))
 
 -- ---- the whole, the rows "in row order", then a line `.`
 

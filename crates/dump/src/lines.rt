@@ -1,11 +1,8 @@
 // The line of a row.
 ghost use mathlib.Core.Path.{_≡_};
-ghost use Rattle.dump.specs.Rows.{countWord, placeWord, labelWord, letterOf, orientNumber, tallyLine, wireLine, jointLine, componentLine, Puts, Space};
+ghost use Rattle.dump.specs.Rows.{countWord, placeWord, labelWord, letterOf, tallyLine, wireLine, jointLine, componentLine, Puts, Space};
 use edge::coordinate;
 use label::label_part;
-use orientation::Number;
-use orientation::RotMirror;
-use orientation::number_of;
 use sheet::Component;
 use sheet::Joint;
 use sheet::Tally;
@@ -42,16 +39,6 @@ fn letter(vertical: bool) -> u8
         return b'v';
     }
     b'h'
-}
-
-// The number of an orientation, 0 to 7, or 8.
-fn orient(o: RotMirror) -> u8
-    ensures { λ r. ⌜ r ≡ orientNumber o ⌝ }
-{
-    match number_of(o) {
-        Number::At(n) => n,
-        Number::Unknown => 8,
-    }
 }
 
 // `T <wires> <joints> <components> <sum of all joint counts>`
@@ -109,11 +96,10 @@ pub(crate) fn put_component(out: &mut [u8], at: usize, c: Component) -> usize
     requires { ⌜ Space at 53 ⌝ }
     ensures { λ r. ⌜ Puts 53 (now (out .entry)) at (componentLine c) (now (out .exit)) r ⌝ }
 {
-    let o = c.rot_mirror;
     let label = c.label;
     let p = put_byte(out, at, b'C');
     let p = put_count(out, p, c.kind as u32);
-    let p = put_count(out, p, orient(o) as u32);
+    let p = put_count(out, p, c.orientation as u32);
     let p = put_place(out, p, c.x);
     let p = put_place(out, p, c.y);
     let p = put_label(out, p, label);

@@ -33,7 +33,7 @@ Apart p b = Shares p (box b) → ⊥
 
 reach : (c : Component) → PartFits c → Reached (c .x) (c .y) (box c .low) × Reached (c .x) (c .y) (box c .high)
 unfolding box
-reach c f = box-reached (c .«rot_mirror») (c .x) (c .y) (record { turned = f .orientation; left = f .x .0; right = f .x .1; top = f .y .0; bottom = f .y .1 }) (c .kind)
+reach c f = box-reached (c .orientation) (c .x) (c .y) (record { turned = f .orientation; left = f .x .0; right = f .x .1; top = f .y .0; bottom = f .y .1 }) (c .kind)
 
 module _ {p : Bounds} (b : Component) (g : PartFits b) where
   pub beside : (far (p .high .x) (b .x) || far (b .x) (p .low .x)) ≡ true → Shares p (box b) → ⊥

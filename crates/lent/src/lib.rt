@@ -4,7 +4,6 @@ ghost use Rattle.redraw.specs.Calls;
 ghost use Rattle.schematic.specs.Calls.{checked};
 ghost use Rattle.lent.specs.Noting.{noted};
 use label::Label;
-use orientation::RotMirror;
 use redraw::Edited;
 use sheet::Drawing;
 use sheet::Tally;
@@ -33,15 +32,15 @@ pub fn add_wire(
 pub fn add_component(
     d: Drawing,
     kind: u8,
-    rot_mirror: RotMirror,
+    orientation: u8,
     x: i32,
     y: i32,
     label: Label,
     t: &mut Tally,
 ) -> Edited
-    ensures { λ r. ⌜ (r ≡ checked d (now (t .entry)) (Calls.addComponent d kind «rot_mirror» x y label (now (t .entry)))) × (now (t .exit) ≡ noted (now (t .entry)) r) ⌝ }
+    ensures { λ r. ⌜ (r ≡ checked d (now (t .entry)) (Calls.addComponent d kind orientation x y label (now (t .entry)))) × (now (t .exit) ≡ noted (now (t .entry)) r) ⌝ }
 {
-    let e = schematic::add_component(d, kind, rot_mirror, x, y, label, *t);
+    let e = schematic::add_component(d, kind, orientation, x, y, label, *t);
     if e.reply == 0 {
         *t = e.tally;
     }

@@ -11,10 +11,6 @@ use Rattle.lists.proofs.Tables.{all-zero, zeros-only}
 use Rattle.lists.proofs.Lists.{all-reads}
 use Rattle.lists.proofs.Finding.{in-drop}
 use Rattle.edge.specs.Coordinates.{insideOf}
-use Rattle.orientation.specs.Orientations.{eqZ, known, zeros, sameOf}
-use Rattle.orientation.specs.declared.RotMirror.{RotMirror}
-use Rattle.orientation.proofs.Bits.{eqZ-refl}
-use Rattle.orientation.proofs.Eight.{same-eq}
 use Rattle.label.specs.Labels.{labelOk}
 use Rattle.sheet.specs.declared.Wire.{Wire}
 use Rattle.sheet.specs.declared.Component.{Component}
@@ -45,36 +41,24 @@ blank-joint-reads j = reads-as (
 -- a component row of zeros, by its label's bytes
 record Zeros (c : Component) : Type 0 where
   kind : c .kind ≡ 0
-  rot-mirror : c .«rot_mirror» ≡ zeros
+  orientation : c .orientation ≡ 0
   x : c .x ≡ 0
   y : c .y ≡ 0
   label : (b : ℕ) → b ∈ c .label → b ≡ 0
 
-same-self : (o : RotMirror) → T (sameOf o o)
-unfolding sameOf
-same-self o =
-    let a = eqZ (o .0) (o .0) in
-    let b = eqZ (o .1) (o .1) in
-    let c = eqZ (o .2) (o .2) in
-    let d = eqZ (o .3) (o .3) in
-    both-T a (b && (c && d)) (eqZ-refl (o .0)) (both-T b (c && d) (eqZ-refl (o .1)) (both-T c d (eqZ-refl (o .2)) (eqZ-refl (o .3))))
-
-same-orientation-reads : (o p : RotMirror) → Reads (o ≡ p) (sameOf o p)
-same-orientation-reads o p = reads (sameOf o p) (same-eq o p) (λ e. subst (λ q. T (sameOf o q)) e (same-self o))
-
 zeros-reads : (c : Component) → Reads (Zeros c) (blankComponent c)
 unfolding blankComponent
 zeros-reads c = reads-as
-    (λ t. record { kind = t .0; rot-mirror = t .1 .0; x = t .1 .1 .0; y = t .1 .1 .1 .0; label = t .1 .1 .1 .1 }, λ z. (z .kind, (z .rot-mirror, (z .x, (z .y, z .label)))))
-    (and-reads (eqb-reads (c .kind) 0) (and-reads (same-orientation-reads (c .«rot_mirror») zeros) (and-reads (eqb-reads (c .x) 0) (and-reads (eqb-reads (c .y) 0) (all-reads (λ b. eqb-reads b 0) (c .label))))))
+    (λ t. record { kind = t .0; orientation = t .1 .0; x = t .1 .1 .0; y = t .1 .1 .1 .0; label = t .1 .1 .1 .1 }, λ z. (z .kind, (z .orientation, (z .x, (z .y, z .label)))))
+    (and-reads (eqb-reads (c .kind) 0) (and-reads (eqb-reads (c .orientation) 0) (and-reads (eqb-reads (c .x) 0) (and-reads (eqb-reads (c .y) 0) (all-reads (λ b. eqb-reads b 0) (c .label))))))
 
 zeros-is : (c : Component) → length (c .label) ≡ 16 → Zeros c → c ≡ zeroComponent
 zeros-is c n z =
     let l : c .label ≡ replicate 16 0 = all-zero 0 (c .label) (z .label) ∙ ap (λ (k : ℕ). replicate k 0) n in
-    λ i. record { kind = z .kind i; «rot_mirror» = z .rot-mirror i; x = z .x i; y = z .y i; label = l i }
+    λ i. record { kind = z .kind i; orientation = z .orientation i; x = z .x i; y = z .y i; label = l i }
 
 is-zeros : (c : Component) → c ≡ zeroComponent → Zeros c
-is-zeros c e = subst Zeros (sym e) (record { kind = refl; rot-mirror = refl; x = refl; y = refl; label = λ b m. zeros-only 0 16 m })
+is-zeros c e = subst Zeros (sym e) (record { kind = refl; orientation = refl; x = refl; y = refl; label = λ b m. zeros-only 0 16 m })
 
 pub fits-reads : (w : Wire) → Reads (Fits w) (wireFits w)
 unfolding wireFits
@@ -85,7 +69,7 @@ pub component-reads : (c : Component) → Reads (PartFits c) (componentFits c)
 unfolding componentFits
 component-reads c = reads-as
     (λ t. record { kind = t .0 .0; orientation = t .0 .1; x = t .1 .0; y = t .1 .1 .0; label = t .1 .1 .1 }, λ f. ((f .kind, f .orientation), (f .x, (f .y, f .label))))
-    (and-reads (and-reads (leb-reads (c .kind) 2) (test (known (c .«rot_mirror»)))) (and-reads (inside-reads (c .x)) (and-reads (inside-reads (c .y)) (test (labelOk (c .label))))))
+    (and-reads (and-reads (leb-reads (c .kind) 2) (ltb-reads (c .orientation) 8)) (and-reads (inside-reads (c .x)) (and-reads (inside-reads (c .y)) (test (labelOk (c .label))))))
   where
     inside-reads : (n : ℕ) → Reads ((200 ≤ n) × (n ≤ 11800)) (insideOf n)
     inside-reads n = and-reads (leb-reads 200 n) (leb-reads n 11800)

@@ -5,7 +5,6 @@ use lib.Dec.{eqb, ltb, leb}
 use lib.ListN.{drop}
 use Rattle.lists.specs.Lists.{all}
 use Rattle.edge.specs.Coordinates.{insideOf}
-use Rattle.orientation.specs.Orientations.{zeros, sameOf}
 use Rattle.label.specs.Labels.{labelOk, allZero}
 use Rattle.symbol.specs.Symbols.{knownSymbol}
 use Rattle.sheet.specs.declared.Wire.{Wire}
@@ -20,7 +19,7 @@ blankWire w = not (w .vertical) && (eqb (w .line) 0 && (eqb (w .start) 0 && eqb 
 
 -- a component row that is all zero
 unfoldable pub blankComponent : Component → Bool
-blankComponent c = eqb (c .kind) 0 && (sameOf (c .«rot_mirror») zeros && (eqb (c .x) 0 && (eqb (c .y) 0 && allZero (c .label))))
+blankComponent c = eqb (c .kind) 0 && (eqb (c .orientation) 0 && (eqb (c .x) 0 && (eqb (c .y) 0 && allZero (c .label))))
 
 -- a joint row that is all zero
 unfoldable pub blankJoint : Joint → Bool
@@ -32,7 +31,7 @@ wireFits w = leb (w .line) 12000 && (ltb (w .start) (w .end) && leb (w .end) 120
 
 -- the component meets the limits
 unfoldable pub componentFits : Component → Bool
-componentFits c = knownSymbol (c .kind) (c .«rot_mirror») && (insideOf (c .x) && (insideOf (c .y) && labelOk (c .label)))
+componentFits c = knownSymbol (c .kind) (c .orientation) && (insideOf (c .x) && (insideOf (c .y) && labelOk (c .label)))
 
 -- "counts are within the rooms"
 unfoldable pub rooms : Drawing → Bool

@@ -7,7 +7,6 @@ ghost use Rattle.sheet.specs.Drawings.{wireRows, componentRows};
 ghost use Rattle.limits.specs.Limits.{blankWire, blankComponent, blankJoint, wireFits, componentFits, rooms, check1};
 use edge::is_position;
 use label::label_ok;
-use orientation::RotMirror;
 use sheet::Component;
 use sheet::Components;
 use sheet::Drawing;
@@ -33,10 +32,8 @@ fn is_blank_component(c: Component) -> bool
     ensures { λ r. ⌜ r ≡ blankComponent c ⌝ }
 {
     let bytes = c.label;
-    let o = c.rot_mirror;
     (c.kind == 0)
-        & (orientation::same(o, RotMirror(0, 0, 0, 0))
-            & ((c.x == 0) & ((c.y == 0) & label::zeros_from(&bytes, 0))))
+        & ((c.orientation == 0) & ((c.x == 0) & ((c.y == 0) & label::zeros_from(&bytes, 0))))
 }
 
 fn wire_fits(w: Wire) -> bool
@@ -49,8 +46,7 @@ fn component_fits(c: Component) -> bool
     ensures { λ r. ⌜ r ≡ componentFits c ⌝ }
 {
     let bytes = c.label;
-    let o = c.rot_mirror;
-    is_known(c.kind, o) & (is_position(c.x) & (is_position(c.y) & label_ok(bytes)))
+    is_known(c.kind, c.orientation) & (is_position(c.x) & (is_position(c.y) & label_ok(bytes)))
 }
 
 fn wires_blank(ws: Wires) -> bool

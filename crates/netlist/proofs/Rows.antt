@@ -9,7 +9,6 @@ use lib.ListN.{length, getD, drop, replicate, length-append}
 use Rattle.lists.specs.Tables.{pad}
 use Rattle.lists.proofs.Tests.{choose, eqb-reads}
 use Rattle.lists.proofs.Walks.{rows-from, rows-past}
-use Rattle.orientation.specs.Orientations.{zeros}
 use Rattle.sheet.specs.declared.Component.{Component}
 use Rattle.sheet.specs.declared.Components.{Components}
 use Rattle.sheet.specs.Drawings.{componentRows}
@@ -41,7 +40,7 @@ module _ (e : Entry) {kind : ℕ} (n a b : ℕ) where
 
 -- what the code reads past the end of an array of components
 abbrev pub blank : Component
-blank = record { kind = 0; «rot_mirror» = zeros; x = 0; y = 0; label = [] }
+blank = record { kind = 0; orientation = 0; x = 0; y = 0; label = [] }
 
 -- the components from row i on, the first of which starts at pad `at`
 module _ (t : Components) (net : ℕ → ℕ) (kind at i : ℕ) (rows : t .count ≤ length (t .rows)) where

@@ -9,6 +9,7 @@ use lib.Seq.{ext-getD}
 use Rattle.lists.specs.Lists.{_∈_, gather}
 use Rattle.lists.proofs.Lists.{in-gather, in-keep}
 use Rattle.lists.proofs.Tests.{eqb-reads}
+use Rattle.orientation.specs.Orientations.{eighth}
 use Rattle.symbol.specs.declared.Point.{Point}
 use Rattle.symbol.specs.Symbols.{padsAt, movedOf}
 use Rattle.sheet.specs.declared.Component.{Component}
@@ -41,7 +42,7 @@ module _ {A : Type 0} where
 
 pub length-pads-in : (c : Component) → length (pads c) ≡ padsIn (c .kind)
 unfolding pads
-length-pads-in c = length-map (padsAt (c .kind)) (movedOf (c .«rot_mirror») (c .x) (c .y))
+length-pads-in c = length-map (padsAt (c .kind)) (movedOf (eighth (c .orientation)) (c .x) (c .y))
 
 some-pad : (k : ℕ) → 0 < padsIn k
 some-pad zero = omega arith

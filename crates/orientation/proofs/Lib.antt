@@ -1,3 +1,2 @@
-pub mod Bits
 pub mod Eight
 pub mod Turns

@@ -1,20 +1,23 @@
--- The laws of the eight orientations: the numbers and the eight are one to one; each turn takes the eight to the eight, by a table; four right
--- turns, a left and a right turn, and two mirrors change nothing.
-use mathlib.Core.Path.{_≡_, refl, sym, ap, _∙_}
-use Prim.Native.Nat.{ℕ, zero, suc, _<_}
-use mathlib.Core.Bool.{true, cond}
+-- The laws of the eight orientations: the numbers 0 to 7 and the eight are one to one; a turn of the number is the turn of its four numbers;
+-- four right turns, a left and a right turn, and two mirrors change nothing.
+use mathlib.Core.Path.{_≡_, refl, sym, ap, _∙_, subst}
+use Prim.Native.Nat.{ℕ, zero, suc, _<_, _≤_}
+use native.Mathlib.Nat.{le-of-suc-le-suc}
+use native.Mathlib.Omega.{arith}
+use mathlib.Core.Bool.{Bool, cond, not, _||_}
+use mathlib.Core.Logic.{⊎-elim}
 use mathlib.Core.List.{List, [], _∷_}
-use lib.Dec.{T, ltb, ltb→lt}
+use lib.Dec.{T, eqb, ltb, ltb→lt}
 use lib.IntN.{negℤ-negℤ}
-use lib.ListN.{getD}
-use Rattle.lists.specs.Lists.{all}
-use Rattle.lists.proofs.Tests.{agree}
-use Rattle.orientation.specs.Orientations.{rotMirror, sameOf, numberIs, told, numberOf, known, eighth, turnIs, noTurn, turnedBy, rightOf, leftOf, mirrorOf}
+use lib.ListN.{length, getD, List·getD-eq-default}
+use borrow.Author.Tests.{lt-ltb, le-ltb}
+use Rattle.lists.specs.Lists.{any, all}
+use Rattle.lists.proofs.Tests.{Reads, pass, fail, holds, or-reads, not-reads, eqb-reads, ltb-reads}
+use Rattle.orientation.specs.Orientations.{rotMirror, eight, zeros, sameOf, known, eighth, numberedOf, fourAre, noFour, turnIs, noTurn, turnBy, turnedBy, rights, lefts, mirrors, rightOf, leftOf, mirrorOf}
 use Rattle.orientation.specs.declared.RotMirror.{RotMirror}
-use Rattle.orientation.specs.declared.Number.{Number}
-use Rattle.orientation.specs.declared.Number.the-variants.{At, Unknown}
+use Rattle.orientation.specs.declared.FourNumbers.{FourNumbers}
 use Rattle.orientation.specs.declared.Turned.{Turned}
-use Rattle.orientation.proofs.Eight.{Each, each, of-eight, test-eight, upTo, in-upTo}
+use Rattle.orientation.proofs.Eight.{Each, upTo, below-8, test-8, same-reads, of-eight}
 
 -- ---- on any four numbers
 pub left-right : (o : RotMirror) → leftOf (rightOf o) ≡ o
@@ -29,92 +32,126 @@ four-rights o = λ i. rotMirror (negℤ-negℤ (o .0) i) (negℤ-negℤ (o .1) i
 pub two-mirrors : (o : RotMirror) → mirrorOf (mirrorOf o) ≡ o
 two-mirrors o = λ i. rotMirror (negℤ-negℤ (o .0) i) (negℤ-negℤ (o .1) i) (o .2) (o .3)
 
+-- ---- a turn of the number is the turn of its four numbers
+
+-- what holds of 0 to 7 and of each number from 8 on
+every : (P : ℕ → Type 0) → Each P (upTo 8) → ((n : ℕ) → 8 ≤ n → P n) → (n : ℕ) → P n
+every P h f n = go (ltb-reads n 8)
+  where
+    go : {b : Bool} → Reads (n < 8) b → P n
+    go (pass l) = below-8 P h n l
+    go (fail k) = f n (omega (arith, k))
+
+-- from 8 on there are no four numbers
+none : (n : ℕ) → 8 ≤ n → eighth n ≡ zeros
+none n h = List·getD-eq-default eight zeros h
+
+-- the turn f of the four numbers is the table t on the numbers, also where there is none: zeros stay zeros
+abbrev pub Follows : (RotMirror → RotMirror) → List ℕ → Type 0
+Follows f t = (n : ℕ) → eighth (turnBy t n) ≡ f (eighth n)
+
+follows : (f : RotMirror → RotMirror) (t : List ℕ) → length t ≡ 8 → zeros ≡ f zeros → Each (λ (n : ℕ). eighth (turnBy t n) ≡ f (eighth n)) (upTo 8) → Follows f t
+follows f t e z h = every (λ (n : ℕ). eighth (turnBy t n) ≡ f (eighth n)) h (λ n k. ap eighth (List·getD-eq-default t 8 (subst (λ m. m ≤ n) (sym e) k)) ∙ z ∙ sym (ap f (none n k)))
+
+pub eighth-right : Follows rightOf rights
+eighth-right = follows rightOf rights refl refl (refl, (refl, (refl, (refl, (refl, (refl, (refl, (refl, tt))))))))
+
+pub eighth-left : Follows leftOf lefts
+eighth-left = follows leftOf lefts refl refl (refl, (refl, (refl, (refl, (refl, (refl, (refl, (refl, tt))))))))
+
+pub eighth-mirror : Follows mirrorOf mirrors
+eighth-mirror = follows mirrorOf mirrors refl refl (refl, (refl, (refl, (refl, (refl, (refl, (refl, (refl, tt))))))))
+
 -- ---- the numbers 0 to 7 and the eight are one to one
-below-8 : (P : ℕ → Type 0) → Each P (upTo 8) → (n : ℕ) → n < 8 → P n
-below-8 P h n l = each P (in-upTo 8 l) h
 
-pub number-eighth : (n : ℕ) → n < 8 → numberOf (eighth n) ≡ numberIs n
-unfolding numberOf sameOf
-number-eighth = below-8 (λ (n : ℕ). numberOf (eighth n) ≡ numberIs n) (refl, (refl, (refl, (refl, (refl, (refl, (refl, (refl, tt))))))))
+-- a number is one of 0 to 7 exactly if its four numbers are one of the eight
+pub known-number : (n : ℕ) → known (eighth n) ≡ ltb n 8
+unfolding any sameOf
+known-number = every (λ (n : ℕ). known (eighth n) ≡ ltb n 8) (refl, (refl, (refl, (refl, (refl, (refl, (refl, (refl, tt)))))))) (λ n h. ap known (none n h) ∙ sym (le-ltb n 8 h))
 
--- what is told of a number tells which it is: so the contract of `number_of` determines what it returns
-numberIn : ℕ → ℕ → Number
-numberIn zero n = At n
-numberIn (suc r) n = Unknown
+pub eighth-known : (n : ℕ) → n < 8 → T (known (eighth n))
+eighth-known n h = subst T (sym (known-number n ∙ lt-ltb n 8 h)) tt
 
-told-back : (m : Number) → numberIn (told m .reply) (told m .number) ≡ m
-unfolding numberIn
-told-back (At n) = refl
-told-back Unknown = refl
+-- each of the eight has a number
+pub eighth-onto : (o : RotMirror) → T (known o) → (n : ℕ) × n < 8 × eighth n ≡ o
+eighth-onto = of-eight (λ (o : RotMirror). (n : ℕ) × n < 8 × eighth n ≡ o)
+    ((0, omega arith, refl), ((1, omega arith, refl), ((2, omega arith, refl), ((3, omega arith, refl), ((4, omega arith, refl), ((5, omega arith, refl), ((6, omega arith, refl), ((7, omega arith, refl), tt))))))))
 
-pub one-number : (m n : Number) → told m ≡ told n → m ≡ n
-one-number m n e = sym (told-back m) ∙ (λ i. numberIn (e i .reply) (e i .number)) ∙ told-back n
+-- and no two numbers have the same four
+pub eighth-one : (m n : ℕ) → m < 8 → n < 8 → eighth m ≡ eighth n → m ≡ n
+unfolding sameOf all
+eighth-one m n h k e =
+    let apart : T (all (λ (n : ℕ). not (sameOf (eighth m) (eighth n)) || eqb m n) (upTo 8)) = test-8 (λ (m : ℕ). all (λ (n : ℕ). not (sameOf (eighth m) (eighth n)) || eqb m n) (upTo 8)) tt m h in
+    ⊎-elim (λ no. absurd (no e)) (λ yes. yes)
+    (holds (or-reads (not-reads (same-reads (eighth m) (eighth n))) (eqb-reads m n)) (test-8 (λ (n : ℕ). not (sameOf (eighth m) (eighth n)) || eqb m n) apart n k))
 
-pub record Back (o : RotMirror) : Type 0 where
-  pub number : numberOf o .number < 8
-  pub same : eighth (numberOf o .number) ≡ o
+-- ---- each turn takes the numbers 0 to 7 to themselves
+abbrev pub Stays : List ℕ → Type 0
+Stays t = (n : ℕ) → n < 8 → turnBy t n < 8
 
-pub eighth-number : (o : RotMirror) → T (known o) → Back o
-unfolding numberOf sameOf all
-eighth-number o t = record {
-  number = ltb→lt (numberOf o .number) 8 (test-eight (λ (o : RotMirror). ltb (numberOf o .number) 8) tt o t);
-  same = of-eight (λ (o : RotMirror). eighth (numberOf o .number) ≡ o) (refl, (refl, (refl, (refl, (refl, (refl, (refl, (refl, tt)))))))) o t;
-}
+stays : (t : List ℕ) → T (all (λ (n : ℕ). ltb (turnBy t n) 8) (upTo 8)) → Stays t
+stays t h n l = ltb→lt (turnBy t n) 8 (test-8 (λ (n : ℕ). ltb (turnBy t n) 8) h n l)
 
--- ---- each turn takes the eight to the eight; left-right, right-left and two-mirrors undo it, so it is one to one
-pub right-known : (o : RotMirror) → T (known o) → T (known (rightOf o))
-unfolding numberOf sameOf all
-right-known = test-eight (λ (o : RotMirror). known (rightOf o)) tt
+pub right-stays : Stays rights
+unfolding all
+right-stays = stays rights tt
 
-pub left-known : (o : RotMirror) → T (known o) → T (known (leftOf o))
-unfolding numberOf sameOf all
-left-known = test-eight (λ (o : RotMirror). known (leftOf o)) tt
+pub left-stays : Stays lefts
+unfolding all
+left-stays = stays lefts tt
 
-pub mirror-known : (o : RotMirror) → T (known o) → T (known (mirrorOf o))
-unfolding numberOf sameOf all
-mirror-known = test-eight (λ (o : RotMirror). known (mirrorOf o)) tt
+pub mirror-stays : Stays mirrors
+unfolding all
+mirror-stays = stays mirrors tt
 
--- ---- the turns, as they act on the numbers 0 to 7
-abbrev pub rights : List ℕ
-rights = 1 ∷ 2 ∷ 3 ∷ 0 ∷ 5 ∷ 6 ∷ 7 ∷ 4 ∷ []
+-- ---- the calls
 
-abbrev pub lefts : List ℕ
-lefts = 3 ∷ 0 ∷ 1 ∷ 2 ∷ 7 ∷ 4 ∷ 5 ∷ 6 ∷ []
-
-abbrev pub mirrors : List ℕ
-mirrors = 4 ∷ 7 ∷ 6 ∷ 5 ∷ 0 ∷ 3 ∷ 2 ∷ 1 ∷ []
-
-abbrev pub Acts : (RotMirror → RotMirror) → List ℕ → ℕ → Type 0
-Acts f t n = numberOf (f (eighth n)) ≡ numberIs (getD t n 8)
-
-pub right-acts : (n : ℕ) → n < 8 → Acts rightOf rights n
-unfolding numberOf sameOf
-right-acts = below-8 (Acts rightOf rights) (refl, (refl, (refl, (refl, (refl, (refl, (refl, (refl, tt))))))))
-
-pub left-acts : (n : ℕ) → n < 8 → Acts leftOf lefts n
-unfolding numberOf sameOf
-left-acts = below-8 (Acts leftOf lefts) (refl, (refl, (refl, (refl, (refl, (refl, (refl, (refl, tt))))))))
-
-pub mirror-acts : (n : ℕ) → n < 8 → Acts mirrorOf mirrors n
-unfolding numberOf sameOf
-mirror-acts = below-8 (Acts mirrorOf mirrors) (refl, (refl, (refl, (refl, (refl, (refl, (refl, (refl, tt))))))))
-
--- ---- the calls: after a turn that is answered by 0, the turn back is answered by 0 and the first orientation
-pub is-known : (o : RotMirror) → T (known o) → known o ≡ true
-is-known o t = agree (known o) true (λ u. tt) (λ u. t)
-
-pub turn-known : (f : RotMirror → RotMirror) (o : RotMirror) → T (known o) → turnedBy f o ≡ turnIs (f o)
+pub turn-known : (t : List ℕ) (n : ℕ) → n < 8 → turnedBy t n ≡ turnIs (turnBy t n)
 unfolding turnedBy
-turn-known f o t = λ i. cond (is-known o t i) (turnIs (f o)) noTurn
+turn-known t n h = λ i. cond (lt-ltb n 8 h i) (turnIs (turnBy t n)) noTurn
 
-undone : (f g : RotMirror → RotMirror) (o : RotMirror) → T (known o) → T (known (f o)) → g (f o) ≡ o → turnedBy g (turnedBy f o .turn) ≡ turnIs o
-undone f g o t u e = ap (λ (r : Turned). turnedBy g (r .turn)) (turn-known f o t) ∙ turn-known g (f o) u ∙ ap turnIs e
+pub turn-none : (t : List ℕ) (n : ℕ) → 8 ≤ n → turnedBy t n ≡ noTurn
+unfolding turnedBy
+turn-none t n h = λ i. cond (le-ltb n 8 h i) (turnIs (turnBy t n)) noTurn
 
-pub right-then-left : (o : RotMirror) → T (known o) → turnedBy leftOf (turnedBy rightOf o .turn) ≡ turnIs o
-right-then-left o t = undone rightOf leftOf o t (right-known o t) (left-right o)
+-- a table of eight as the machine reads it
+pub turn-read : (t : List ℕ) → length t ≡ 8 → {n : ℕ} → n < 8 → turnIs (getD t n 0) ≡ turnedBy t n
+turn-read t e {n} h = ap turnIs (go t n (subst (λ k. n < k) (sym e) h)) ∙ sym (turn-known t n h)
+  where
+    go : (t : List ℕ) (n : ℕ) → n < length t → getD t n 0 ≡ getD t n 8
+    go [] n h = absurd (let z : ⊥ = omega arith in z)
+    go (x ∷ xs) zero h = refl
+    go (x ∷ xs) (suc n) h = go xs n (le-of-suc-le-suc h)
 
-pub left-then-right : (o : RotMirror) → T (known o) → turnedBy rightOf (turnedBy leftOf o .turn) ≡ turnIs o
-left-then-right o t = undone leftOf rightOf o t (left-known o t) (right-left o)
+-- after a turn that is answered by 0, the turn back is answered by 0 and the first number
+abbrev Undoes : List ℕ → List ℕ → Type 0
+Undoes u t = (n : ℕ) → n < 8 → turnedBy u (turnedBy t n .turn) ≡ turnIs n
 
-pub mirror-twice : (o : RotMirror) → T (known o) → turnedBy mirrorOf (turnedBy mirrorOf o .turn) ≡ turnIs o
-mirror-twice o t = undone mirrorOf mirrorOf o t (mirror-known o t) (two-mirrors o)
+undone : (u t : List ℕ) → Stays t → Each (λ (n : ℕ). turnBy u (turnBy t n) ≡ n) (upTo 8) → Undoes u t
+undone u t s h n l = ap (λ (r : Turned). turnedBy u (r .turn)) (turn-known t n l) ∙ turn-known u (turnBy t n) (s n l) ∙ ap turnIs (below-8 (λ (n : ℕ). turnBy u (turnBy t n) ≡ n) h n l)
+
+pub right-then-left : Undoes lefts rights
+right-then-left = undone lefts rights right-stays (refl, (refl, (refl, (refl, (refl, (refl, (refl, (refl, tt))))))))
+
+pub left-then-right : Undoes rights lefts
+left-then-right = undone rights lefts left-stays (refl, (refl, (refl, (refl, (refl, (refl, (refl, (refl, tt))))))))
+
+pub mirror-twice : Undoes mirrors mirrors
+mirror-twice = undone mirrors mirrors mirror-stays (refl, (refl, (refl, (refl, (refl, (refl, (refl, (refl, tt))))))))
+
+-- the four numbers asked of a number
+pub four-known : (n : ℕ) → n < 8 → numberedOf n ≡ fourAre (eighth n)
+unfolding numberedOf
+four-known n h = λ i. cond (lt-ltb n 8 h i) (fourAre (eighth n)) noFour
+
+pub four-none : (n : ℕ) → 8 ≤ n → numberedOf n ≡ noFour
+unfolding numberedOf
+four-none n h = λ i. cond (le-ltb n 8 h i) (fourAre (eighth n)) noFour
+
+-- what `numbered` tells are the four numbers of the number, also where it answers 4
+pub told-four : (n : ℕ) {r : FourNumbers} → r ≡ numberedOf n → r .turn ≡ eighth n
+told-four n e = ap (λ (r : FourNumbers). r .turn) e ∙ go (ltb-reads n 8)
+  where
+    go : {b : Bool} → Reads (n < 8) b → numberedOf n .turn ≡ eighth n
+    go (pass l) = ap (λ (r : FourNumbers). r .turn) (four-known n l)
+    go (fail k) = let h : 8 ≤ n = omega (arith, k) in ap (λ (r : FourNumbers). r .turn) (four-none n h) ∙ sym (none n h)

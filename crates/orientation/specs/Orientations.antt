@@ -1,14 +1,16 @@
--- The eight orientations, their numbers, and the three turns.
-use Prim.Native.Nat.{ℕ, suc}
+-- The eight orientations by their numbers, and the three turns.
+use Prim.Native.Nat.{ℕ}
 use mathlib.Core.Bool.{Bool, false, _&&_, cond}
 use mathlib.Core.List.{List, [], _∷_}
 use lib.Dec.{eqb, ltb}
 use lib.IntN.{ℤ, pos, negsuc, negℤ}
 use lib.ListN.{getD}
+use Rattle.lists.specs.Lists.{any}
 use Rattle.orientation.specs.declared.RotMirror.{RotMirror}
+use Rattle.orientation.specs.declared.FourNumbers.{FourNumbers}
 use Rattle.orientation.specs.declared.Turned.{Turned}
-use Rattle.orientation.specs.declared.Number.{Number}
-use Rattle.orientation.specs.declared.Number.the-variants.{At, Unknown}
+
+-- ---- the four numbers
 
 -- (a, b, c, d)
 abbrev pub rotMirror : ℤ → ℤ → ℤ → ℤ → RotMirror
@@ -38,63 +40,17 @@ eqZ (negsuc m) (negsuc n) = eqb m n
 unfoldable pub sameOf : RotMirror → RotMirror → Bool
 sameOf o p = eqZ (o .0) (p .0) && (eqZ (o .1) (p .1) && (eqZ (o .2) (p .2) && eqZ (o .3) (p .3)))
 
--- a call for a number as document 01 answers it: 0 and the number, or "4: .. not one of the eight orientations" and zeros
-pub record NumberReply : Type 0 where
-  pub reply : ℕ
-  pub number : ℕ
-
--- 0 and the number
-abbrev pub numberIs : ℕ → NumberReply
-numberIs n = record { reply = 0; number = n }
-
--- 4 and 0
-abbrev pub noNumber : NumberReply
-noNumber = record { reply = 4; number = 0 }
-
--- "For an answer that is an enum, a definition provides this paper's number and values for each of the enum's cases."
-abbrev pub told : Number → NumberReply
-told (At n) = numberIs n
-told Unknown = noNumber
-
--- the place of o in a list, counted from n
-abbrev pub seek : RotMirror → ℕ → List RotMirror → NumberReply
-seek o n [] = noNumber
-seek o n (p ∷ ps) = cond (sameOf o p) (numberIs n) (seek o (suc n) ps)
-
--- the number of o
-unfoldable pub numberOf : RotMirror → NumberReply
-numberOf o = seek o 0 eight
-
 -- "Orientation: four signed numbers that are one of the eight"
 abbrev pub known : RotMirror → Bool
-known o = eqb (numberOf o .reply) 0
+known o = any (sameOf o) eight
 
 -- "zeros for every number"
 abbrev pub zeros : RotMirror
 zeros = rotMirror (pos 0) (pos 0) (pos 0) (pos 0)
 
--- the orientation of a number below 8
+-- the four numbers of a number; zeros, which are none of the eight, where it is none of 0 to 7
 abbrev pub eighth : ℕ → RotMirror
 eighth n = getD eight n zeros
-
--- ---- the calls: "A box, pads or a turn asked of a bad kind, orientation or position get 4 or 1, in that order, and zeros for every
--- number."
-
--- 0 and the turned orientation
-abbrev pub turnIs : RotMirror → Turned
-turnIs o = record { reply = 0; turn = o }
-
--- 4 and zeros
-abbrev pub noTurn : Turned
-noTurn = record { reply = 4; turn = zeros }
-
--- the orientation of a number, or 4
-unfoldable pub numberedOf : ℕ → Turned
-numberedOf n = cond (ltb n 8) (turnIs (eighth n)) noTurn
-
--- a turn asked of four numbers
-unfoldable pub turnedBy : (RotMirror → RotMirror) → RotMirror → Turned
-turnedBy f o = cond (known o) (turnIs (f o)) noTurn
 
 -- "Turn right: (−c, −d, a, b)."
 abbrev pub rightOf : RotMirror → RotMirror
@@ -107,3 +63,45 @@ leftOf o = rotMirror (o .2) (o .3) (negℤ (o .0)) (negℤ (o .1))
 -- "Mirror: (−a, −b, c, d)."
 abbrev pub mirrorOf : RotMirror → RotMirror
 mirrorOf o = rotMirror (negℤ (o .0)) (negℤ (o .1)) (o .2) (o .3)
+
+-- ---- "turning and mirroring on that number" (document 02, P1): what the three turns make of 0 to 7. That these are the turns of the four
+-- numbers is `Follows` in proofs/Turns: eighth-right, eighth-left, eighth-mirror.
+abbrev pub rights : List ℕ
+rights = 1 ∷ 2 ∷ 3 ∷ 0 ∷ 5 ∷ 6 ∷ 7 ∷ 4 ∷ []
+
+abbrev pub lefts : List ℕ
+lefts = 3 ∷ 0 ∷ 1 ∷ 2 ∷ 7 ∷ 4 ∷ 5 ∷ 6 ∷ []
+
+abbrev pub mirrors : List ℕ
+mirrors = 4 ∷ 7 ∷ 6 ∷ 5 ∷ 0 ∷ 3 ∷ 2 ∷ 1 ∷ []
+
+-- the number that a table has for n; what is no number stays none
+abbrev pub turnBy : List ℕ → ℕ → ℕ
+turnBy t n = getD t n 8
+
+-- ---- the calls: "A box, pads or a turn asked of a bad kind, orientation or position get 4 or 1, in that order, and zeros for every
+-- number." "For orientations, reply 4 is now a number outside 0 to 7" (document 02, P1).
+
+-- 0 and the number of the turned orientation
+abbrev pub turnIs : ℕ → Turned
+turnIs n = record { reply = 0; turn = n }
+
+-- 4 and 0
+abbrev pub noTurn : Turned
+noTurn = record { reply = 4; turn = 0 }
+
+-- a turn asked of a number, by its table
+unfoldable pub turnedBy : List ℕ → ℕ → Turned
+turnedBy t n = cond (ltb n 8) (turnIs (turnBy t n)) noTurn
+
+-- 0 and the four numbers
+abbrev pub fourAre : RotMirror → FourNumbers
+fourAre o = record { reply = 0; turn = o }
+
+-- 4 and zeros
+abbrev pub noFour : FourNumbers
+noFour = record { reply = 4; turn = zeros }
+
+-- the four numbers asked of a number
+unfoldable pub numberedOf : ℕ → FourNumbers
+numberedOf n = cond (ltb n 8) (fourAre (eighth n)) noFour

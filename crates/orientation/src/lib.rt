@@ -1,20 +1,20 @@
-// The eight orientations and the three turns.
+// The eight orientations by their numbers, and the three turns.
 ghost use mathlib.Core.Path.{_≡_};
-ghost use Rattle.orientation.specs.Orientations.{sameOf, told, numberOf, known, numberedOf, turnedBy, rightOf, leftOf, mirrorOf};
+ghost use Rattle.orientation.specs.Orientations.{numberedOf, turnedBy, rights, lefts, mirrors};
 
 // An orientation (a, b, c, d): (x, y) goes to (ax + by, cx + dy).
 pub struct RotMirror(pub i8, pub i8, pub i8, pub i8);
 
-// The number of an orientation, or none.
-pub enum Number {
-    At(u8),
-    Unknown,
-}
-
-// The reply to a turn: 0 and the turned orientation, or 4 and zeros.
-pub struct Turned {
+// The reply to a call for the four numbers: 0 and the orientation, or 4 and zeros.
+pub struct FourNumbers {
     pub reply: u8,
     pub turn: RotMirror,
+}
+
+// The reply to a turn: 0 and the number of the turned orientation, or 4 and 0.
+pub struct Turned {
+    pub reply: u8,
+    pub turn: u8,
 }
 
 // The eight, in the order of their numbers.
@@ -29,94 +29,66 @@ const EIGHT: [RotMirror; 8] = [
     RotMirror(0, 1, 1, 0),
 ];
 
-const REFUSED: Turned = Turned {
-    reply: 4,
-    turn: RotMirror(0, 0, 0, 0),
-};
+// The number after a turn to the right, a turn to the left, and a mirror, for each number.
+const RIGHTS: [u8; 8] = [1, 2, 3, 0, 5, 6, 7, 4];
 
-// Whether two are the same four numbers.
-pub fn same(o: RotMirror, p: RotMirror) -> bool
-    ensures { λ r. ⌜ r ≡ sameOf o p ⌝ }
-{
-    (o.0 == p.0) & ((o.1 == p.1) & ((o.2 == p.2) & (o.3 == p.3)))
-}
+const LEFTS: [u8; 8] = [3, 0, 1, 2, 7, 4, 5, 6];
 
-// The orientation of a number, or 4 and zeros.
-pub fn numbered(n: u8) -> Turned
+const MIRRORS: [u8; 8] = [4, 7, 6, 5, 0, 3, 2, 1];
+
+const NO_TURN: Turned = Turned { reply: 4, turn: 0 };
+
+// The four numbers of a number. Two wrong answers that this rules out: 7 given as 3 (numbered_seven_is_three), a number past 7 answered by 1
+// (numbered_refused_by_1).
+pub fn numbered(n: u8) -> FourNumbers
     ensures { λ r. ⌜ r ≡ numberedOf n ⌝ }
 {
     if n < 8 {
         let i = n as usize;
         let turn = EIGHT[i];
+        return FourNumbers { reply: 0, turn };
+    }
+    FourNumbers {
+        reply: 4,
+        turn: RotMirror(0, 0, 0, 0),
+    }
+}
+
+// A quarter turn to the right. Two wrong answers that this rules out: 4 made of 3 (rotate_r_leaves_the_ring), a mirrored one turned left
+// (rotate_r_mirrored_left).
+pub fn rotate_r(n: u8) -> Turned
+    ensures { λ r. ⌜ r ≡ turnedBy rights n ⌝ }
+{
+    if n < 8 {
+        let i = n as usize;
+        let turn = RIGHTS[i];
         return Turned { reply: 0, turn };
     }
-    REFUSED
+    NO_TURN
 }
 
-// The number of o, 0 to 7: the first whose orientation is o.
-pub fn number_of(o: RotMirror) -> Number
-    ensures { λ r. ⌜ told r ≡ numberOf o ⌝ }
+// A quarter turn to the left. Two wrong answers that this rules out: a right turn (rotate_l_turns_right), a mirrored one turned right
+// (rotate_l_mirrored_right).
+pub fn rotate_l(n: u8) -> Turned
+    ensures { λ r. ⌜ r ≡ turnedBy lefts n ⌝ }
 {
-    let mut n: u8 = 0;
-    while n < 8 {
-        let p = numbered(n);
-        let t = p.turn;
-        if same(o, t) {
-            return Number::At(n);
-        }
-        n += 1;
+    if n < 8 {
+        let i = n as usize;
+        let turn = LEFTS[i];
+        return Turned { reply: 0, turn };
     }
-    Number::Unknown
+    NO_TURN
 }
 
-// Whether o is one of the eight.
-pub fn is_known(o: RotMirror) -> bool
-    ensures { λ r. ⌜ r ≡ known o ⌝ }
+// Left and right change places. Two wrong answers that this rules out: the turn kept, as n + 4 has it (mirror_keeps_the_turn), top and bottom
+// exchanged (mirror_upside_down).
+pub fn mirror(n: u8) -> Turned
+    ensures { λ r. ⌜ r ≡ turnedBy mirrors n ⌝ }
 {
-    match number_of(o) {
-        Number::At(_) => true,
-        Number::Unknown => false,
+    if n < 8 {
+        let i = n as usize;
+        let turn = MIRRORS[i];
+        return Turned { reply: 0, turn };
     }
-}
-
-// A quarter turn to the right.
-pub fn rotate_r(o: RotMirror) -> Turned
-    ensures { λ r. ⌜ r ≡ turnedBy rightOf o ⌝ }
-{
-    if is_known(o) {
-        Turned {
-            reply: 0,
-            turn: RotMirror(-o.2, -o.3, o.0, o.1),
-        }
-    } else {
-        REFUSED
-    }
-}
-
-// A quarter turn to the left.
-pub fn rotate_l(o: RotMirror) -> Turned
-    ensures { λ r. ⌜ r ≡ turnedBy leftOf o ⌝ }
-{
-    if is_known(o) {
-        Turned {
-            reply: 0,
-            turn: RotMirror(o.2, o.3, -o.0, -o.1),
-        }
-    } else {
-        REFUSED
-    }
-}
-
-// Left and right change places.
-pub fn mirror(o: RotMirror) -> Turned
-    ensures { λ r. ⌜ r ≡ turnedBy mirrorOf o ⌝ }
-{
-    if is_known(o) {
-        Turned {
-            reply: 0,
-            turn: RotMirror(-o.0, -o.1, o.2, o.3),
-        }
-    } else {
-        REFUSED
-    }
+    NO_TURN
 }

@@ -17,7 +17,6 @@ use crate::steps::run;
 use label::Label;
 use label::label_of;
 use lending::tally_after_wire;
-use orientation::RotMirror;
 use schematic::add_component;
 use schematic::add_wire;
 use schematic::delete_at_point;
@@ -55,11 +54,10 @@ fn all_wrong(d: Drawing) {
     put_count(k.second as u32);
     put(b"\n");
     put_told(b"add_wire", add_wire(d, false, 6001, 5, 4, NINES));
-    let none = RotMirror(0, 0, 0, 0);
     let long = label_of(b"a label too long ");
     put_told(
         b"add_component",
-        add_component(d, 3, none, 5801, 0, long, NINES),
+        add_component(d, 3, 8, 5801, 0, long, NINES),
     );
     put_told(b"delete_at_point", delete_at_point(d, 6001, 0, 1001, NINES));
     put_told(
@@ -114,10 +112,9 @@ pub(crate) fn damaged() {
 }
 
 // Contacts at (0,0) in an orientation, (300,0) and (350,0), with no joint.
-fn three_contacts(o: RotMirror) {
-    let known = RotMirror(1, 0, 0, 1);
-    let b = component(1, known, 6300, 6000);
-    let c = component(1, known, 6350, 6000);
+fn three_contacts(o: u8) {
+    let b = component(1, 0, 6300, 6000);
+    let c = component(1, 0, 6350, 6000);
     let cs = components(component(1, o, 6000, 6000), b, c, 3);
     let e = empty();
     let ws = e.wires;
@@ -130,7 +127,7 @@ fn three_contacts(o: RotMirror) {
 }
 
 // A component of a kind in an orientation, and the turns asked of that orientation: 4 where it is none.
-fn oriented(name: &[u8], kind: u8, o: RotMirror) {
+fn oriented(name: &[u8], kind: u8, o: u8) {
     put_told(
         name,
         add_component(empty(), kind, o, 0, 0, label_of(b"K1"), NINES),
@@ -147,26 +144,18 @@ fn oriented(name: &[u8], kind: u8, o: RotMirror) {
 
 pub(crate) fn outside() {
     put(b"# rule 5: contacts at (0,0), (300,0) and (350,0); rule 1: an orientation that is none\n");
-    three_contacts(RotMirror(1, 0, 0, 1));
-    three_contacts(RotMirror(1, 0, 0, 0));
+    three_contacts(0);
+    three_contacts(8);
     put(b"# orientations that are none of the eight, and a kind that is none\n");
-    oriented(b"0 0 0 0", 1, RotMirror(0, 0, 0, 0));
-    oriented(b"2 0 0 1", 1, RotMirror(2, 0, 0, 1));
-    oriented(b"-128 0 0 127", 1, RotMirror(-128, 0, 0, 127));
-    oriented(b"kind 255", 255, RotMirror(0, 1, 1, 0));
+    oriented(b"8", 1, 8);
+    oriented(b"128", 1, 128);
+    oriented(b"255", 1, 255);
+    oriented(b"kind 255", 255, 7);
 }
 
 // A contact at (0, 0) with a label as a caller gives it.
 fn labelled(name: &[u8], bytes: [u8; 16], length: usize) {
-    let e = add_component(
-        empty(),
-        1,
-        RotMirror(1, 0, 0, 1),
-        0,
-        0,
-        Label { bytes, length },
-        NINES,
-    );
+    let e = add_component(empty(), 1, 0, 0, 0, Label { bytes, length }, NINES);
     put(name);
     put(b"\n");
     put_edited(e, false);

@@ -1,5 +1,4 @@
 // Drawings made by hand, row by row.
-use orientation::RotMirror;
 use sheet::Component;
 use sheet::Components;
 use sheet::Drawing;
@@ -30,10 +29,10 @@ pub(crate) fn joint(x: u16, y: u16, count: u16) -> Joint {
 }
 
 // An unlabelled component.
-pub(crate) fn component(kind: u8, rot_mirror: RotMirror, x: u16, y: u16) -> Component {
+pub(crate) fn component(kind: u8, orientation: u8, x: u16, y: u16) -> Component {
     Component {
         kind,
-        rot_mirror,
+        orientation,
         x,
         y,
         label: [0u8; 16],
@@ -57,7 +56,7 @@ pub(crate) fn joints(a: Joint, b: Joint, count: usize) -> Joints {
 }
 
 pub(crate) fn components(a: Component, b: Component, c: Component, count: usize) -> Components {
-    let none = component(0, RotMirror(0, 0, 0, 0), 0, 0);
+    let none = component(0, 0, 0, 0);
     let mut rows = [none; 128];
     rows[0] = a;
     rows[1] = b;
@@ -68,7 +67,7 @@ pub(crate) fn components(a: Component, b: Component, c: Component, count: usize)
 // The empty drawing.
 pub(crate) fn empty() -> Drawing {
     let point = joint(0, 0, 0);
-    let part = component(0, RotMirror(0, 0, 0, 0), 0, 0);
+    let part = component(0, 0, 0, 0);
     Drawing {
         wires: wires(NO_WIRE, NO_WIRE, 0),
         components: components(part, part, part, 0),
@@ -78,7 +77,7 @@ pub(crate) fn empty() -> Drawing {
 
 // Wires and joints, and no component.
 fn wired(ws: Wires, js: Joints) -> Drawing {
-    let part = component(0, RotMirror(0, 0, 0, 0), 0, 0);
+    let part = component(0, 0, 0, 0);
     Drawing {
         wires: ws,
         components: components(part, part, part, 0),
@@ -113,7 +112,7 @@ pub(crate) fn full_wires() -> Drawing {
 // 128 power symbols in eight rows of sixteen, 200 apart, from (0, 0) on.
 pub(crate) fn full_parts() -> Drawing {
     let none = joint(0, 0, 0);
-    let part = component(0, RotMirror(0, 0, 0, 0), 0, 0);
+    let part = component(0, 0, 0, 0);
     let mut cs = [part; 128];
     let mut js = [none; 1408];
     let mut k: u16 = 0;
@@ -121,7 +120,7 @@ pub(crate) fn full_parts() -> Drawing {
         let i = k as usize;
         let x = k % 16 * 200 + 6000;
         let y = k / 16 * 200 + 6000;
-        cs[i] = component(0, RotMirror(1, 0, 0, 1), x, y);
+        cs[i] = component(0, 0, x, y);
         js[i] = joint(x, y, 1);
         k += 1;
     }

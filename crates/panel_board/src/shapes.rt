@@ -4,7 +4,6 @@ use crate::print::put;
 use cad::Shape;
 use label::Label;
 use label::label_of;
-use orientation::RotMirror;
 
 fn put_shape(asked: &[u8], s: Shape) {
     put(asked);
@@ -20,10 +19,9 @@ fn put_shape(asked: &[u8], s: Shape) {
 
 // A component at (x, 0) in its first orientation.
 fn shape(asked: &[u8], kind: u8, x: i32, label: &[u8], i: usize) {
-    let o = RotMirror(1, 0, 0, 1);
     put_shape(
         asked,
-        cad::component(kind, o, x, 0, label_of(label), i, true, false),
+        cad::component(kind, 0, x, 0, label_of(label), i, true, false),
     );
 }
 
@@ -35,7 +33,7 @@ pub(crate) fn shapes() {
     };
     put_shape(
         b"no orientation",
-        cad::component(1, RotMirror(0, 0, 0, 0), 5801, 0, none, 99, true, false),
+        cad::component(1, 8, 5801, 0, none, 99, true, false),
     );
     shape(b"no kind", 3, 5801, b"K K", 99);
     shape(b"outside", 1, 5801, b"K K", 99);

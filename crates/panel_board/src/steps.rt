@@ -73,8 +73,7 @@ fn answer(e: Edited, line: &[u8], command: Command) -> Edited {
             y,
             label,
         } => {
-            let turned = orientation::numbered(choice(orient));
-            let o = turned.turn;
+            let o = choice(orient);
             add_component(d, choice(kind), o, x, y, label_at(line, label), t)
         }
         Command::Delete { x, y, size } => delete_at_point(d, x, y, size, t),

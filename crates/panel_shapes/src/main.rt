@@ -42,8 +42,7 @@ fn down(p: u32) -> u16
 fn symbol(kind: u8, n: usize, x: u16, y: u16) -> Shape
     requires { ⌜ n < 256 ⌝ }
 {
-    let turned = orientation::numbered((n / 32) as u8);
-    let o = turned.turn;
+    let o = (n / 32) as u8;
     let label = Label {
         bytes: [0u8; 16],
         length: 0,

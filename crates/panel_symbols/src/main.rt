@@ -3,8 +3,6 @@ use component::BoxAnswer;
 use component::PadsAnswer;
 use component::Position;
 use libc::STDOUT_FILENO;
-use orientation::Number;
-use orientation::RotMirror;
 use orientation::Turned;
 
 fn put(text: &[u8]) {
@@ -40,27 +38,20 @@ fn put_point(p: Position) {
 
 // A space and the number of what a turn gives.
 fn put_turned(t: Turned) {
-    let o = t.turn;
-    match orientation::number_of(o) {
-        Number::At(n) => put_number(n as u16),
-        Number::Unknown => put(b" *"),
+    if t.reply == 0 {
+        put_number(t.turn as u16);
+    } else {
+        put(b" *");
     }
 }
 
-// The orientation of a number; zeros, which are none of the eight, where there is none.
-fn turn_of(orient: u8) -> RotMirror {
-    let t = orientation::numbered(orient);
-    t.turn
-}
-
 fn put_turns(orient: u8) {
-    let o = turn_of(orient);
     put(b"T");
     put_number(orient as u16);
     put(b":");
-    put_turned(orientation::rotate_r(o));
-    put_turned(orientation::rotate_l(o));
-    put_turned(orientation::mirror(o));
+    put_turned(orientation::rotate_r(orient));
+    put_turned(orientation::rotate_l(orient));
+    put_turned(orientation::mirror(orient));
     put(b"\n");
 }
 
@@ -111,13 +102,12 @@ fn put_pads(p: PadsAnswer) {
 }
 
 fn put_symbol(kind: u8, orient: u8, x: i32, y: i32) {
-    let o = turn_of(orient);
     put(b"B");
     put_asked(kind, orient, x, y);
-    put_box(component::component_box(kind, o, x, y));
+    put_box(component::component_box(kind, orient, x, y));
     put(b"P");
     put_asked(kind, orient, x, y);
-    put_pads(component::component_pads(kind, o, x, y));
+    put_pads(component::component_pads(kind, orient, x, y));
 }
 
 // A kind in all orientations at one position.
@@ -149,11 +139,10 @@ fn put_refusals() {
     put_symbol(0, 8, 0, 0);
     put_symbol(1, 0, 5801, 0);
     put_symbol(1, 0, 0, -5801);
-    let none = turn_of(9);
     put(b"B 9 9 9999 9999:");
-    put_box(component::component_box(9, none, 9999, 9999));
+    put_box(component::component_box(9, 9, 9999, 9999));
     put(b"P 9 9 9999 9999:");
-    put_pads(component::component_pads(9, none, 9999, 9999));
+    put_pads(component::component_pads(9, 9, 9999, 9999));
 }
 
 fn main() {

@@ -9,9 +9,8 @@ use lib.ListN.{length, getD}
 use Rattle.lists.specs.Lists.{_∈_, keep, insert}
 use Rattle.lists.proofs.Lists.{keep-old, insert-in}
 use Rattle.lists.proofs.Tables.{row-in, holds-list}
-use Rattle.orientation.specs.declared.RotMirror.{RotMirror}
 use Rattle.orientation.specs.declared.Turned.{Turned}
-use Rattle.orientation.specs.Orientations.{turnedBy}
+use Rattle.orientation.specs.Orientations.{turnBy, turnedBy}
 use Rattle.orientation.proofs.Turns.{turn-known}
 use Rattle.sheet.specs.declared.Component.{Component}
 use Rattle.sheet.specs.declared.Components.{Components}
@@ -24,8 +23,8 @@ pub row-fits : {t : Components} {i : ℕ} (d : Component) → PartsFit t → len
 row-fits {t} {i} d h e b = h .each (getD (t .rows) i d) (row-in (t .rows) (t .count) i d b (omega (arith, h .room)))
 
 -- a component with the orientation that a turn gives
-pub turned-part : (f : RotMirror → RotMirror) (c : Component) {t : Turned} {r : Component} → PartFits c → t ≡ turnedBy f (c .«rot_mirror») → r ≡ reoriented (λ o. t .turn) c → r ≡ reoriented f c
-turned-part f c h e q = q ∙ ap (λ (t : Turned). reoriented (λ o. t .turn) c) (e ∙ turn-known f (c .«rot_mirror») (h .orientation))
+pub turned-part : (f : List ℕ) (c : Component) {t : Turned} {r : Component} → PartFits c → t ≡ turnedBy f (c .orientation) → r ≡ reoriented (λ o. t .turn) c → r ≡ reoriented (turnBy f) c
+turned-part f c h e q = q ∙ ap (λ (t : Turned). reoriented (λ o. t .turn) c) (e ∙ turn-known f (c .orientation) (h .orientation))
 
 -- ---- tables that the functions give still hold components that meet the limits
 

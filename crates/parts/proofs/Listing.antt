@@ -6,6 +6,7 @@ use mathlib.Core.Path.{_≡_, refl, sym, ap, subst, _∙_}
 use lib.ListN.{length, take, getD, set, replicate, length-append, length-set, length-take, length-replicate, length-map}
 use lib.Seq.{take-take, take-append-seam}
 use Rattle.lists.proofs.Pushes.{three-of, take-three}
+use Rattle.orientation.specs.Orientations.{eighth}
 use Rattle.symbol.specs.declared.Point.{Point}
 use Rattle.symbol.specs.declared.PadBlock.{PadBlock}
 use Rattle.symbol.specs.Symbols.{unused, padBlock, padsAt, movedOf}
@@ -16,7 +17,7 @@ use Rattle.wires.specs.declared.Points.{Points}
 use Rattle.wires.specs.Tables.{pointRows}
 use Rattle.parts.specs.Tables.{Block, TabledPoints}
 
-pub pad-block : (c : Component) {b : PadBlock} → b ≡ padBlock (c .kind) (c .«rot_mirror») (c .x) (c .y) → Block (pads c) b
+pub pad-block : (c : Component) {b : PadBlock} → b ≡ padBlock (c .kind) (eighth (c .orientation)) (c .x) (c .y) → Block (pads c) b
 unfolding pads
 pad-block c e = subst (Block (pads c)) (sym e) (record {
   size = omega (arith, length-take 3 (pads c ++ (unused ∷ unused ∷ unused ∷ [])), length-append (pads c) (unused ∷ unused ∷ unused ∷ []));
@@ -51,7 +52,7 @@ other-kinds (suc (suc k)) n = refl
 
 length-pads-of : (c : Component) → length (pads c) ≡ length (padsAt (c .kind))
 unfolding pads
-length-pads-of c = length-map (padsAt (c .kind)) (movedOf (c .«rot_mirror») (c .x) (c .y))
+length-pads-of c = length-map (padsAt (c .kind)) (movedOf (eighth (c .orientation)) (c .x) (c .y))
 
 -- n is the number of the points
 pub record Many (ps : List Point) (n : ℕ) : Type 0 where

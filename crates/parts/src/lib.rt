@@ -9,7 +9,6 @@ ghost use mathlib.Core.Path.{_≡_};
 ghost use mathlib.Core.List.{[]};
 ghost use Rattle.sheet.specs.Parts;
 ghost use Rattle.parts.specs.Tables.{TabledParts, met};
-use orientation::RotMirror;
 use sheet::Component;
 use sheet::Components;
 use symbol::Bounds;
@@ -22,7 +21,7 @@ pub fn no_parts() -> Components
 {
     let zero = Component {
         kind: 0,
-        rot_mirror: RotMirror(0, 0, 0, 0),
+        orientation: 0,
         x: 0,
         y: 0,
         label: [0u8; 16],
@@ -36,8 +35,7 @@ pub fn box_of(c: Component) -> Bounds
     requires { ⌜ Parts.PartFits c ⌝ }
     ensures { λ r. ⌜ r ≡ Parts.box c ⌝ }
 {
-    let o = c.rot_mirror;
-    bounds_at(c.kind, o, c.x, c.y)
+    bounds_at(c.kind, c.orientation, c.x, c.y)
 }
 
 // The box meets the component, of every kind or a contact.

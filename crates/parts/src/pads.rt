@@ -18,8 +18,7 @@ pub fn pads_of(c: Component) -> PadBlock
     requires { ⌜ Parts.PartFits c ⌝ }
     ensures { λ r. ⌜ Block (Parts.pads c) r ⌝ }
 {
-    let o = c.rot_mirror;
-    pads_at(c.kind, o, c.x, c.y)
+    pads_at(c.kind, c.orientation, c.x, c.y)
 }
 
 // The pads of all components, in row order.

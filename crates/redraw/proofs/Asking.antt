@@ -8,7 +8,6 @@ use lib.IntN.{ℤ}
 use lib.Signed.{leZ}
 use Rattle.lists.specs.Lists.{any}
 use Rattle.edge.specs.Coordinates.{toℕ, sizedReply, sizeOf}
-use Rattle.orientation.specs.declared.RotMirror.{RotMirror}
 use Rattle.symbol.specs.Symbols.{knownSymbol}
 use Rattle.label.specs.declared.Label.{Label}
 use Rattle.label.specs.Labels.{heldLabel}
@@ -60,7 +59,7 @@ wire-decides d v l s e t q = subst (λ (a : AskedWire). Decides d t (a .reply) (
 abbrev pub untouched : Drawing → Tally → AskedPart → Edited
 untouched d t a = refusedUnless (not (any (touches (a .part)) (listsOf d .parts))) 6 d t (edited d t (quiet (placeOne (a .part) (listsOf d))))
 
-pub part-decides : (d : Drawing) (k : ℕ) (o : RotMirror) (x y : ℤ) (l : Label) (t : Tally) {a : AskedPart} → a ≡ askedPart k o x y l → Decides d t (a .reply) (untouched d t a) (addComponent d k o x y l t)
+pub part-decides : (d : Drawing) (k : ℕ) (o : ℕ) (x y : ℤ) (l : Label) (t : Tally) {a : AskedPart} → a ≡ askedPart k o x y l → Decides d t (a .reply) (untouched d t a) (addComponent d k o x y l t)
 unfolding addComponent askedPart
 part-decides d k o x y l t q = subst (λ (a : AskedPart). Decides d t (a .reply) (untouched d t a) (addComponent d k o x y l t)) (sym q) (go (knownSymbol k o) (ranged 5800 x && ranged 5800 y) (eqb (heldLabel l .reply) 0))
   where

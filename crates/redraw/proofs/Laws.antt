@@ -8,7 +8,6 @@ use lib.IntN.{ℤ}
 use lib.ListN.{length}
 use Rattle.lists.specs.Lists.{any}
 use Rattle.lists.proofs.Tests.{decide, eqb-reads}
-use Rattle.orientation.specs.declared.RotMirror.{RotMirror}
 use Rattle.label.specs.declared.Label.{Label}
 use Rattle.sheet.specs.declared.Drawing.{Drawing}
 use Rattle.sheet.specs.declared.Tally.{Tally}
@@ -68,7 +67,7 @@ module _ {d : Drawing} (l : Lawful d) (t : Tally) where
   pub wire-accepted : (v : Bool) (a s e : ℤ) → Accepted (addWire d v a s e t)
   wire-accepted v a s e = by-reply Accepted (wire-decides d v a s e t refl) (λ f z. absurd (f z)) (λ z. edited-fine d t _ (wire-good _ (listsOf d) (wire-drawable v a s e refl z) (lawful-good l)))
 
-  pub component-accepted : (k : ℕ) (o : RotMirror) (x y : ℤ) (b : Label) → Accepted (addComponent d k o x y b t)
+  pub component-accepted : (k : ℕ) (o : ℕ) (x y : ℤ) (b : Label) → Accepted (addComponent d k o x y b t)
   component-accepted k o x y b = by-reply Accepted (part-decides d k o x y b t refl) (λ f z. absurd (f z)) (λ z. let c = askedPart k o x y b .part in
       by-test Accepted (not (any (touches c) (listsOf d .parts))) 6 (λ f. absurd (omega arith)) (λ e. edited-fine d t _ (placed-good c (listsOf d) (part-fits k o x y b refl z) (lawful-good l) (free (any (touches c) (listsOf d .parts)) e))))
     where

@@ -7,7 +7,6 @@ use lib.IntN.{ℤ}
 use lib.Signed.{leZ}
 use Rattle.lists.specs.Lists.{any}
 use Rattle.edge.specs.Coordinates.{toℕ, sizedReply, sizeOf}
-use Rattle.orientation.specs.declared.RotMirror.{RotMirror}
 use Rattle.label.specs.declared.Label.{Label}
 use Rattle.label.specs.Labels.{heldLabel}
 use Rattle.symbol.specs.declared.Point.{Point}
@@ -50,7 +49,7 @@ addWire d vertical line start end t =
 
 -- "Place.": 4 "unknown kind, or not one of the eight orientations", 1, 5 "label too long or with another byte", 6 "the new component's box
 -- shares a point with a placed one", then the edit
-unfoldable pub addComponent : Drawing → ℕ → RotMirror → ℤ → ℤ → Label → Tally → Edited
+unfoldable pub addComponent : Drawing → ℕ → ℕ → ℤ → ℤ → Label → Tally → Edited
 addComponent d kind o x y label t =
     let c = componentAt kind o x y label in
     refusedUnless (knownSymbol kind o) 4 d t

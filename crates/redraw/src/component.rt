@@ -8,7 +8,6 @@ use crate::refused;
 use asked::asked_part;
 use edits::place::place;
 use label::Label;
-use orientation::RotMirror;
 use parts::touch::touches_any;
 use sheet::Drawing;
 use sheet::Tally;
@@ -18,16 +17,16 @@ use sheet::Tally;
 pub fn add_component_on(
     d: Drawing,
     kind: u8,
-    rot_mirror: RotMirror,
+    orientation: u8,
     x: i32,
     y: i32,
     label: Label,
     t: Tally,
 ) -> Edited
     requires { ⌜ Lawful d ⌝ }
-    ensures { λ r. ⌜ r ≡ Calls.addComponent d kind «rot_mirror» x y label t ⌝ }
+    ensures { λ r. ⌜ r ≡ Calls.addComponent d kind orientation x y label t ⌝ }
 {
-    let a = asked_part(kind, rot_mirror, x, y, label);
+    let a = asked_part(kind, orientation, x, y, label);
     if a.reply != 0 {
         return refused(a.reply, d, t);
     }

@@ -5,7 +5,6 @@ ghost use Rattle.redraw.specs.Calls;
 ghost use Rattle.schematic.specs.Calls.{checked};
 use label::Label;
 use lawful::check;
-use orientation::RotMirror;
 pub use redraw::Edited;
 use redraw::component::add_component_on;
 use redraw::pointer::delete_on;
@@ -33,19 +32,19 @@ pub fn add_wire(d: Drawing, vertical: bool, line: i32, start: i32, end: i32, t: 
 pub fn add_component(
     d: Drawing,
     kind: u8,
-    rot_mirror: RotMirror,
+    orientation: u8,
     x: i32,
     y: i32,
     label: Label,
     t: Tally,
 ) -> Edited
-    ensures { λ r. ⌜ r ≡ checked d t (Calls.addComponent d kind «rot_mirror» x y label t) ⌝ }
+    ensures { λ r. ⌜ r ≡ checked d t (Calls.addComponent d kind orientation x y label t) ⌝ }
 {
     let k = check(d);
     if k.rule != 0 {
         return refused(9, d, t);
     }
-    add_component_on(d, kind, rot_mirror, x, y, label, t)
+    add_component_on(d, kind, orientation, x, y, label, t)
 }
 
 // "Delete.": all that the square of half-width size about (x, y) meets is gone. 9, 1 or 3. Two wrong answers that this rules out: a delete

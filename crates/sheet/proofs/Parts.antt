@@ -1,12 +1,11 @@
 -- Components: which touch, how many pads they have, and what another orientation leaves as it was.
-use Prim.Native.Nat.{ℕ, zero, suc, _≤_}
+use Prim.Native.Nat.{ℕ, zero, suc, _≤_, _<_}
 use mathlib.Core.Path.{_≡_, subst, sym}
 use native.Mathlib.Omega.{arith}
 use lib.Dec.{T}
 use lib.ListN.{length, length-map}
 use Rattle.lists.proofs.Tests.{Reads, holds}
-use Rattle.orientation.specs.declared.RotMirror.{RotMirror}
-use Rattle.orientation.specs.Orientations.{known, mirrorOf}
+use Rattle.orientation.specs.Orientations.{eighth, turnBy, mirrors}
 use Rattle.symbol.specs.Symbols.{boundsAt, movedOf, padsAt}
 use Rattle.symbol.proofs.Boxes.{within, own-box, common-touches, mirror-box}
 use Rattle.sheet.specs.declared.Component.{Component}
@@ -23,21 +22,23 @@ pub near : (b c : Component) → PartFits b → PartFits c → position b ≡ po
 unfolding box
 near b c f g e =
     holds (shares-reads (box b) (box c))
-    (common-touches (box b) (box c) (position c) (subst (λ p. T (within p (box b))) e (own-box (b .kind) (b .«rot_mirror») (b .x) (b .y) (f .orientation))) (own-box (c .kind) (c .«rot_mirror») (c .x) (c .y) (g .orientation)))
+    (common-touches (box b) (box c) (position c) (subst (λ p. T (within p (box b))) e (own-box (b .kind) (b .orientation) (b .x) (b .y) (f .orientation))) (own-box (c .kind) (c .orientation) (c .x) (c .y) (g .orientation)))
 
 pub length-pads : (c : Component) → length (pads c) ≤ 3
 unfolding pads
-length-pads c = omega (arith, length-map (padsAt (c .kind)) (movedOf (c .«rot_mirror») (c .x) (c .y)), at-most (c .kind))
+length-pads c = omega (arith, length-map (padsAt (c .kind)) (movedOf (eighth (c .orientation)) (c .x) (c .y)), at-most (c .kind))
   where
     at-most : (k : ℕ) → length (padsAt k) ≤ 3
     at-most zero = omega arith
     at-most (suc zero) = omega arith
     at-most (suc (suc k)) = omega arith
 
-pub reoriented-fits : (f : RotMirror → RotMirror) → ((o : RotMirror) → T (known o) → T (known (f o))) → (c : Component) → PartFits c → PartFits (reoriented f c)
-reoriented-fits f k c t = record { kind = t .kind; orientation = k (c .«rot_mirror») (t .orientation); x = t .x; y = t .y; label = t .label }
+pub reoriented-fits : (f : ℕ → ℕ) → ((n : ℕ) → n < 8 → f n < 8) → (c : Component) → PartFits c → PartFits (reoriented f c)
+reoriented-fits f k c t = record { kind = t .kind; orientation = k (c .orientation) (t .orientation); x = t .x; y = t .y; label = t .label }
 
 -- a contact's box is symmetric
 pub mirrored-box : (c : Component) → c .kind ≡ 1 → PartFits c → box (mirrored c) ≡ box c
 unfolding box
-mirrored-box c e f = subst (λ k. boundsAt k (mirrorOf (c .«rot_mirror»)) (c .x) (c .y) ≡ boundsAt k (c .«rot_mirror») (c .x) (c .y)) (sym e) (mirror-box (c .«rot_mirror») (c .x) (c .y) (f .orientation))
+mirrored-box c e f =
+    let n = c .orientation in
+    subst (λ k. boundsAt k (eighth (turnBy mirrors n)) (c .x) (c .y) ≡ boundsAt k (eighth n) (c .x) (c .y)) (sym e) (mirror-box n (c .x) (c .y) (f .orientation))

@@ -12,8 +12,8 @@ use Rattle.lists.proofs.Tests.{test, decide, holds, choose, not-reads, and-read
 use Rattle.lists.proofs.Lists.{keep-in, in-keep, keep-none, keep-old}
 use Rattle.lists.proofs.Appends.{length-parts}
 use Rattle.lists.proofs.Order.{rows-keep, rows-map, rows-two, rows-all, rows-ext}
-use Rattle.orientation.specs.Orientations.{rightOf, mirrorOf}
-use Rattle.orientation.proofs.Turns.{right-known, mirror-known}
+use Rattle.orientation.specs.Orientations.{turnBy, rights, mirrors}
+use Rattle.orientation.proofs.Turns.{right-stays, mirror-stays}
 use Rattle.symbol.specs.declared.Point.{Point}
 use Rattle.sheet.specs.declared.Component.{Component}
 use Rattle.sheet.specs.Points.{same, Rise}
@@ -119,11 +119,11 @@ hits-contact p size c t = holds (and-reads (eqb-reads (c .kind) 1) (test (meetsP
 module _ (p : Point) (size : ℕ) (s : Sheet) (good : Good s) where
   pub turn-right-good : Good (turnRight p size s .sheet)
   unfolding turnRight
-  turn-right-good = turn-good (hits p size) turnedRight s good (reoriented-fits rightOf right-known)
+  turn-right-good = turn-good (hits p size) turnedRight s good (reoriented-fits (turnBy rights) right-stays)
 
   pub mirror-good : Good (mirror p size s .sheet)
   unfolding mirror
-  mirror-good = turn-good (hits p size) mirrored s good (reoriented-fits mirrorOf mirror-known)
+  mirror-good = turn-good (hits p size) mirrored s good (reoriented-fits (turnBy mirrors) mirror-stays)
 
   same-box : (c : Component) → c ∈ s .parts → T (hits p size c) → box (mirrored c) ≡ box c
   same-box c m t = mirrored-box c (hits-contact p size c t) (good .fits c m)
@@ -136,4 +136,4 @@ module _ (p : Point) (size : ℕ) (s : Sheet) (good : Good s) where
   -- and leaves each row where it is
   pub mirror-parts : mirror p size s .sheet .parts ≡ map (λ c. cond (hits p size c) (mirrored c) c) (s .parts)
   unfolding mirror
-  mirror-parts = turn-parts (hits p size) mirrored s good (reoriented-fits mirrorOf mirror-known) (λ c. refl) same-box
+  mirror-parts = turn-parts (hits p size) mirrored s good (reoriented-fits (turnBy mirrors) mirror-stays) (λ c. refl) same-box

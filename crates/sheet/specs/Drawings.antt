@@ -5,7 +5,6 @@ use mathlib.Core.Path.{_≡_}
 use lib.ListN.{length, take, replicate}
 use Rattle.lists.specs.Lists.{_∈_}
 use Rattle.lists.specs.Tables.{pad}
-use Rattle.orientation.specs.Orientations.{zeros}
 use Rattle.symbol.specs.declared.Point.{Point}
 use Rattle.sheet.specs.declared.Wire.{Wire}
 use Rattle.sheet.specs.declared.Component.{Component}
@@ -44,7 +43,7 @@ zeroWire = record { vertical = false; line = 0; start = 0; end = 0 }
 
 -- a component of zeros
 abbrev pub zeroComponent : Component
-zeroComponent = record { kind = 0; «rot_mirror» = zeros; x = 0; y = 0; label = replicate 16 0 }
+zeroComponent = record { kind = 0; orientation = 0; x = 0; y = 0; label = replicate 16 0 }
 
 -- a joint of zeros
 abbrev pub zeroJoint : Joint

@@ -6,7 +6,6 @@ use mathlib.Core.Path.{_≡_}
 use lib.Dec.{eqb}
 use lib.ListN.{length, replicate}
 use Rattle.lists.specs.Lists.{keep}
-use Rattle.orientation.specs.Orientations.{eighth}
 use Rattle.symbol.specs.declared.Point.{Point}
 use Rattle.sheet.specs.declared.Wire.{Wire}
 use Rattle.sheet.specs.declared.Component.{Component}
@@ -34,7 +33,7 @@ joint a b n = record { x = a; y = b; count = n }
 
 -- `p KIND 0 X Y` with a label
 abbrev pub part : ℕ → ℕ → ℕ → List ℕ → Component
-part kind a b label = record { kind = kind; «rot_mirror» = eighth 0; x = a; y = b; label = label }
+part kind a b label = record { kind = kind; orientation = 0; x = a; y = b; label = label }
 
 -- no label
 abbrev pub unlabelled : List ℕ

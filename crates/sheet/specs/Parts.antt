@@ -1,11 +1,10 @@
 -- Components: a symbol, turned and moved to its position.
-use Prim.Native.Nat.{_≤_}
+use Prim.Native.Nat.{ℕ, _≤_, _<_}
 use mathlib.Core.Bool.{Bool}
 use mathlib.Core.List.{List}
 use lib.Dec.{T}
 use Rattle.lists.specs.Lists.{gather}
-use Rattle.orientation.specs.declared.RotMirror.{RotMirror}
-use Rattle.orientation.specs.Orientations.{known, rightOf, mirrorOf}
+use Rattle.orientation.specs.Orientations.{eighth, turnBy, rights, mirrors}
 use Rattle.label.specs.Labels.{labelOk}
 use Rattle.symbol.specs.declared.Point.{Point}
 use Rattle.symbol.specs.declared.Bounds.{Bounds}
@@ -19,11 +18,11 @@ position c = record { x = c .x; y = c .y }
 
 -- the component's box
 unfoldable pub box : Component → Bounds
-box c = boundsAt (c .kind) (c .«rot_mirror») (c .x) (c .y)
+box c = boundsAt (c .kind) (eighth (c .orientation)) (c .x) (c .y)
 
 -- the component's pads, in symbol order
 unfoldable pub pads : Component → List Point
-pads c = padPoints (c .kind) (c .«rot_mirror») (c .x) (c .y)
+pads c = padPoints (c .kind) (eighth (c .orientation)) (c .x) (c .y)
 
 -- the pads of all components
 abbrev pub padsOf : List Component → List Point
@@ -37,11 +36,11 @@ touches b c = touchesOf (box b) (box c)
 abbrev pub ahead : Component → Component → Bool
 ahead b c = rises (position b) (position c)
 
--- "Kind: 0 Power, 1 Contact, 2 Coil. Orientation: four signed numbers that are one of the eight. Component position:
+-- "Kind: 0 Power, 1 Contact, 2 Coil." Orientation: the number of one of the eight, 0 to 7. "Component position:
 -- −5,800 to 5,800. Label: 0 to 16 bytes, each 0x21 to 0x7E, held in 16 bytes with zeros behind."
 pub record PartFits (c : Component) : Type 0 where
   pub kind : c .kind ≤ 2
-  pub orientation : T (known (c .«rot_mirror»))
+  pub orientation : c .orientation < 8
   pub x : (200 ≤ c .x) × (c .x ≤ 11800)
   pub y : (200 ≤ c .y) × (c .y ≤ 11800)
   pub label : T (labelOk (c .label))
@@ -51,13 +50,13 @@ abbrev pub isContact : Component → Bool
 isContact c = canTurn (c .kind)
 
 -- the component with another orientation
-abbrev pub reoriented : (RotMirror → RotMirror) → Component → Component
-reoriented f c = record { kind = c .kind; «rot_mirror» = f (c .«rot_mirror»); x = c .x; y = c .y; label = c .label }
+abbrev pub reoriented : (ℕ → ℕ) → Component → Component
+reoriented f c = record { kind = c .kind; orientation = f (c .orientation); x = c .x; y = c .y; label = c .label }
 
 -- turned right in its place
 abbrev pub turnedRight : Component → Component
-turnedRight c = reoriented rightOf c
+turnedRight c = reoriented (turnBy rights) c
 
 -- mirrored in its place
 abbrev pub mirrored : Component → Component
-mirrored c = reoriented mirrorOf c
+mirrored c = reoriented (turnBy mirrors) c

@@ -1,6 +1,5 @@
 // A drawing as it is held: rows of wires, components and joints, each in row order, with zero rows behind the count.
 // Coordinates are held plus 6,000, so that none is negative.
-use orientation::RotMirror;
 
 // line: y of a horizontal wire, x of a vertical one; start and end along it.
 pub struct Wire {
@@ -10,10 +9,10 @@ pub struct Wire {
     pub end: u16,
 }
 
-// kind: 0 Power, 1 Contact, 2 Coil; label: its bytes with zeros behind.
+// kind: 0 Power, 1 Contact, 2 Coil; orientation: the number of one of the eight, 0 to 7; label: its bytes with zeros behind.
 pub struct Component {
     pub kind: u8,
-    pub rot_mirror: RotMirror,
+    pub orientation: u8,
     pub x: u16,
     pub y: u16,
     pub label: [u8; 16],

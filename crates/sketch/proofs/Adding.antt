@@ -10,7 +10,6 @@ use lib.Seq.{take-all}
 use Rattle.lists.proofs.Tests.{and-reads, ltb-reads, holds}
 use Rattle.label.specs.declared.Label.{Label}
 use Rattle.label.specs.Labels.{padded, labelOf}
-use Rattle.orientation.specs.declared.RotMirror.{RotMirror}
 use Rattle.check_script.specs.declared.Said.{Said}
 use Rattle.check_script.specs.declared.Said.the-variants.{Component}
 use Rattle.sketch.specs.declared.filled.Filled.{Filled}
@@ -39,13 +38,13 @@ pub row-out : (s u : Sketch) (n : ℕ) (f : Filled) {t : Bool} → t ≡ hasRoom
 row-out s u n f is not = let room : false ≡ hasRoom n f = sym not ∙ is in λ i. heldIf (room i) s u
 
 -- a component, with its label
-pub component-in : (s : Sketch) (line : List ℕ) {what : Said} {back : Bool} {kind : ℕ} {o : RotMirror} {x y at : ℕ} {bytes : List ℕ} {r : Added}
+pub component-in : (s : Sketch) (line : List ℕ) {what : Said} {back : Bool} {kind : ℕ} {o : ℕ} {x y at : ℕ} {bytes : List ℕ} {r : Added}
     → what ≡ Component back kind o x y at → bytes ≡ padded 16 (drop at line)
-    → r ≡ heldIf (hasRoom 128 (s .components)) s (withComponent s back (record { kind = kind; «rot_mirror» = o; x = x; y = y; label = bytes }))
+    → r ≡ heldIf (hasRoom 128 (s .components)) s (withComponent s back (record { kind = kind; orientation = o; x = x; y = y; label = bytes }))
     → r ≡ addedOf s line what
 unfolding addedOf
 component-in s line {what} {back} {kind} {o} {x} {y} {at} {bytes} {r} e q a =
-    a ∙ (λ i. heldIf (hasRoom 128 (s .components)) s (withComponent s back (record { kind = kind; «rot_mirror» = o; x = x; y = y; label = q i })))
+    a ∙ (λ i. heldIf (hasRoom 128 (s .components)) s (withComponent s back (record { kind = kind; orientation = o; x = x; y = y; label = q i })))
     ∙ sym (ap (addedOf s line) e)
 
 -- ---- a label's bytes

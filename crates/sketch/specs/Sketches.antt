@@ -110,7 +110,7 @@ unfoldable pub addedOf : Sketch → List ℕ → Said → Added
 addedOf s line (said.Wire back w) = heldIf (hasRoom 512 (s .wires)) s (withWire s back w)
 addedOf s line (said.Component back kind o x y at) =
     heldIf (hasRoom 128 (s .components)) s
-    (withComponent s back (record { kind = kind; «rot_mirror» = o; x = x; y = y; label = padded 16 (drop at line) }))
+    (withComponent s back (record { kind = kind; orientation = o; x = x; y = y; label = padded 16 (drop at line) }))
 addedOf s line (said.Joint back j) = heldIf (hasRoom 1408 (s .joints)) s (withJoint s back j)
 addedOf s line (said.WireCount n) = held (wiresAs s (s .drawing .wires .rows) n (toldOf (s .wires)))
 addedOf s line (said.ComponentCount n) = held (componentsAs s (s .drawing .components .rows) n (toldOf (s .components)))

@@ -13,7 +13,6 @@ use filled::has_room;
 use filled::more;
 use filled::place;
 use label::label_of;
-use orientation::RotMirror;
 use sheet::Component;
 use sheet::Components;
 use sheet::Drawing;
@@ -51,7 +50,7 @@ fn blank_drawing() -> Drawing
     };
     let component = Component {
         kind: 0,
-        rot_mirror: RotMirror(0, 0, 0, 0),
+        orientation: 0,
         x: 0,
         y: 0,
         label: [0u8; 16],
@@ -228,7 +227,7 @@ pub fn add(s: Sketch, line: &[u8], said: Said) -> Added
             let bytes = label_from(line, label);
             let c = Component {
                 kind,
-                rot_mirror: turn,
+                orientation: turn,
                 x,
                 y,
                 label: bytes,

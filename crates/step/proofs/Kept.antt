@@ -4,7 +4,6 @@ use mathlib.Core.Path.{_≡_, refl}
 use Prim.Native.Nat.{ℕ}
 use lib.IntN.{ℤ}
 use Rattle.lists.specs.Lists.{any}
-use Rattle.orientation.specs.declared.RotMirror.{RotMirror}
 use Rattle.label.specs.declared.Label.{Label}
 use Rattle.symbol.specs.declared.Point.{Point}
 use Rattle.sheet.specs.declared.Drawing.{Drawing}
@@ -39,7 +38,7 @@ module _ (d : Drawing) (t : Tally) where
   pub wire-kept : (v : Bool) (l s e : ℤ) → Kept d (addWire d v l s e t)
   wire-kept v l s e = by-reply (Kept d) (wire-decides d v l s e t refl) (λ f. refused-kept _) (λ z. edited-kept _)
 
-  pub component-kept : (k : ℕ) (o : RotMirror) (x y : ℤ) (b : Label) → Kept d (addComponent d k o x y b t)
+  pub component-kept : (k : ℕ) (o : ℕ) (x y : ℤ) (b : Label) → Kept d (addComponent d k o x y b t)
   component-kept k o x y b = by-reply (Kept d) (part-decides d k o x y b t refl) (λ f. refused-kept _)
       (λ z. unless-kept (not (any (touches (askedPart k o x y b .part)) (listsOf d .parts))) 6 (edited-kept _))
 

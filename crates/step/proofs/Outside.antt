@@ -9,7 +9,6 @@ use lib.Dec.{leb, ltb}
 use lib.IntN.{ℤ, pos, negsuc}
 use borrow.Author.Tests.{lt-leb, le-ltb}
 use Rattle.lists.proofs.Tests.{choose, ltb-reads}
-use Rattle.orientation.specs.Orientations.{sameOf, numberOf, known, numberedOf}
 use Rattle.label.specs.declared.Label.{Label}
 use Rattle.sheet.specs.declared.Drawing.{Drawing}
 use Rattle.sheet.specs.declared.Tally.{Tally}
@@ -26,8 +25,8 @@ unfolding choiceOf
 no-kind (above {n} h) = choose (ltb-reads n 8) (λ k. leb k 2 ≡ false) (λ _. lt-leb n 2 h) (λ _. refl)
 no-kind below = refl
 
-no-orientation : {z : ℤ} → Outside 7 z → known (numberedOf (choiceOf z) .turn) ≡ false
-unfolding choiceOf numberedOf numberOf sameOf
+no-orientation : {z : ℤ} → Outside 7 z → ltb (choiceOf z) 8 ≡ false
+unfolding choiceOf
 no-orientation (above {n} h) = rw (le-ltb n 8 h)
 no-orientation below = refl
 
@@ -36,7 +35,7 @@ and-false true e = e
 and-false false e = refl
 
 pub outside-four : (d : Drawing) (kind orient x y : ℤ) (b : Label) (t : Tally) → Outside 2 kind ⊎ Outside 7 orient
-    → addComponent d (choiceOf kind) (numberedOf (choiceOf orient) .turn) x y b t ≡ refused 4 d t
+    → addComponent d (choiceOf kind) (choiceOf orient) x y b t ≡ refused 4 d t
 unfolding addComponent
 outside-four d kind orient x y b t (inl o) = rw (no-kind o)
 outside-four d kind orient x y b t (inr o) = rw (and-false (leb (choiceOf kind) 2) (no-orientation o))

@@ -6,7 +6,6 @@ use Prim.Native.Nat.{ℕ}
 use lib.Dec.{ltb}
 use lib.IntN.{ℤ, pos, negsuc}
 use lib.ListN.{length, drop}
-use Rattle.orientation.specs.Orientations.{numberedOf}
 use Rattle.label.specs.Labels.{labelOf}
 use Rattle.sheet.specs.declared.Drawing.{Drawing}
 use Rattle.sheet.specs.declared.Tally.{Tally}
@@ -69,7 +68,7 @@ unfoldable pub does : Drawing → List ℕ → Command → After
 does d line (Horizontal y x1 x2) = plainly (addWire d false y x1 x2 noTally)
 does d line (Vertical x y1 y2) = plainly (addWire d true x y1 y2 noTally)
 does d line (Place kind orient x y at) =
-    plainly (addComponent d (choiceOf kind) (numberedOf (choiceOf orient) .turn) x y (labelOf (drop at line)) noTally)
+    plainly (addComponent d (choiceOf kind) (choiceOf orient) x y (labelOf (drop at line)) noTally)
 does d line (Delete x y size) = plainly (deleteAt d x y size noTally)
 does d line (Turn x y size) = countedly (rotateAt d x y size noTally)
 does d line (Mirror x y size) = countedly (mirrorAt d x y size noTally)

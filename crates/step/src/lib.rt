@@ -8,14 +8,12 @@ ghost use Rattle.sheet.specs.Drawings;
 ghost use Rattle.sheet.specs.Rules.{Lawful};
 ghost use Rattle.text.specs.Text.{Put};
 ghost use Rattle.redraw.specs.Calls.{addComponent};
-ghost use Rattle.orientation.specs.Orientations.{numberedOf};
 ghost use Rattle.label.specs.Labels.{labelOf};
 ghost use Rattle.step.specs.Steps.{answered, counted, plainly, countedly, listedly, noTally, choiceOf, stepOf, Answers};
 use joints::drawn;
 use label::label_of;
 use netlist::loose_on;
 use netlist::write_list_on;
-use orientation::numbered;
 use parts::no_parts;
 use redraw::Edited;
 use redraw::component::add_component_on;
@@ -132,11 +130,17 @@ fn tell_list(d: Drawing, out: &mut [u8]) -> Stepped
 // A component, by the numbers of its line.
 fn place(d: Drawing, kind: i32, orient: i32, x: i32, y: i32, label: &[u8]) -> Edited
     requires { ⌜ Lawful d ⌝ }
-    ensures { λ r. ⌜ r ≡ addComponent d (choiceOf kind) (numberedOf (choiceOf orient) .turn) x y (labelOf (now (label .entry))) noTally ⌝ }
+    ensures { λ r. ⌜ r ≡ addComponent d (choiceOf kind) (choiceOf orient) x y (labelOf (now (label .entry))) noTally ⌝ }
 {
-    let o = numbered(choice(orient));
-    let rot_mirror = o.turn;
-    add_component_on(d, choice(kind), rot_mirror, x, y, label_of(label), NO_TALLY)
+    add_component_on(
+        d,
+        choice(kind),
+        choice(orient),
+        x,
+        y,
+        label_of(label),
+        NO_TALLY,
+    )
 }
 
 // What a line does and prints. 8,192 bytes always suffice: a list has at most 7,936. Two wrong answers that this rules out:

@@ -1,22 +1,23 @@
 -- The laws of boxes: touching is sharing a point, and goes both ways; a position lies in its own box; a mirror leaves a contact's box.
-use mathlib.Core.Path.{_≡_, sym, _∙_}
-use Prim.Native.Nat.{ℕ, zero, suc, _≤_, min, max}
+use mathlib.Core.Path.{_≡_, sym, subst, _∙_}
+use Prim.Native.Nat.{ℕ, zero, suc, _≤_, _<_, min, max}
 use native.Mathlib.Omega.{arith}
 use mathlib.Core.Bool.{Bool, _&&_, cond}
 use lib.Dec.{T, leb}
+use borrow.Author.Tests.{lt-ltb}
 use lib.IntN.{pos, negsuc}
 use Rattle.lists.specs.Lists.{all}
 use Rattle.lists.proofs.Tests.{Reads, reads-as, and-reads, test, holds, passes, same-test, leb-reads}
-use Rattle.orientation.specs.Orientations.{known, mirrorOf}
-use Rattle.orientation.specs.declared.RotMirror.{RotMirror}
-use Rattle.orientation.proofs.Eight.{of-eight, test-eight}
-use Rattle.orientation.proofs.Turns.{is-known, mirror-known}
+use Rattle.orientation.specs.Orientations.{eighth, turnBy, mirrors}
+use Rattle.orientation.proofs.Eight.{below-8, test-8}
+use Rattle.orientation.proofs.Turns.{mirror-stays}
 use Rattle.edge.specs.Coordinates.{insideOf}
-use Rattle.symbol.specs.Symbols.{applied, lowAt, highAt, boxOf, boundsAt, touchesOf, boundsFor, refusalOf, aabbOf}
+use Rattle.symbol.specs.Symbols.{Offset, applied, lowAt, highAt, boxOf, boundsAt, touchesOf, boundsFor, refusalOf, aabbOf}
+use Rattle.symbol.specs.Steps.{reachingOf}
 use Rattle.symbol.specs.Boxes.{Shares}
 use Rattle.symbol.specs.declared.Point.{Point}
 use Rattle.symbol.specs.declared.Bounds.{Bounds}
-use Rattle.symbol.proofs.Sides.{put, astride, spans}
+use Rattle.symbol.proofs.Sides.{put, astride, below, above, sided}
 
 -- ---- the tests, read
 pub shares-reads : (a b : Bounds) → Reads (Shares a b) (touchesOf a b)
@@ -73,25 +74,42 @@ common-touches a b p s t =
     let k = holds (within-reads p b) t in
     passes (shares-reads a b) (record { x = omega arith; x′ = omega arith; y = omega arith; y′ = omega arith })
 
--- ---- a position lies in its own box
+-- ---- a component's box, by how far it reaches from the position
 
--- the corners of a symbol lie on both sides of its position
-corners-astride : ℕ → RotMirror → Bool
-corners-astride k o = astride (applied o (lowAt k) .dx) (applied o (highAt k) .dx) && astride (applied o (lowAt k) .dy) (applied o (highAt k) .dy)
+-- the corners of a symbol, turned by the orientation numbered n
+abbrev low : ℕ → ℕ → Offset
+low k n = applied (eighth n) (lowAt k)
 
-all-astride : (k : ℕ) (o : RotMirror) → T (known o) → T (corners-astride k o)
+abbrev high : ℕ → ℕ → Offset
+high k n = applied (eighth n) (highAt k)
+
+-- they lie on both sides of the position
+corners-astride : ℕ → ℕ → Bool
+corners-astride k n = astride (low k n .dx) (high k n .dx) && astride (low k n .dy) (high k n .dy)
+
+all-astride : (k n : ℕ) → n < 8 → T (corners-astride k n)
 unfolding corners-astride all
-all-astride zero = test-eight (corners-astride 0) tt
-all-astride (suc zero) = test-eight (corners-astride 1) tt
-all-astride (suc (suc k)) = test-eight (corners-astride 2) tt
+all-astride zero = test-8 (corners-astride 0) tt
+all-astride (suc zero) = test-8 (corners-astride 1) tt
+all-astride (suc (suc k)) = test-8 (corners-astride 2) tt
 
-pub own-box : (k : ℕ) (o : RotMirror) (x y : ℕ) → T (known o) → T (within (record { x = x; y = y }) (boundsAt k o x y))
+-- the box that reaches as far as they do
+abbrev pub reached : ℕ → ℕ → ℕ → ℕ → Bounds
+reached k n x y = reachingOf x y (below (low k n .dx) (high k n .dx)) (below (low k n .dy) (high k n .dy)) (above (low k n .dx) (high k n .dx)) (above (low k n .dy) (high k n .dy))
+
+pub box-reaches : (k n x y : ℕ) → n < 8 → boundsAt k (eighth n) x y ≡ reached k n x y
 unfolding corners-astride
-own-box k o x y t =
-    let a = holds (and-reads (test (astride (applied o (lowAt k) .dx) (applied o (highAt k) .dx))) (test (astride (applied o (lowAt k) .dy) (applied o (highAt k) .dy)))) (all-astride k o t) in
-    let h = spans x (applied o (lowAt k) .dx) (applied o (highAt k) .dx) (a .0) in
-    let v = spans y (applied o (lowAt k) .dy) (applied o (highAt k) .dy) (a .1) in
-    passes (within-reads (record { x = x; y = y }) (boundsAt k o x y)) (record { x-low = h .0; x-high = h .1; y-low = v .0; y-high = v .1 })
+box-reaches k n x y h =
+    let a = holds (and-reads (test (astride (low k n .dx) (high k n .dx))) (test (astride (low k n .dy) (high k n .dy)))) (all-astride k n h) in
+    let u = sided x (low k n .dx) (high k n .dx) (a .0) in
+    let v = sided y (low k n .dy) (high k n .dy) (a .1) in
+    λ i. record { low = record { x = u .0 i; y = v .0 i }; high = record { x = u .1 i; y = v .1 i } }
+
+-- so a position lies in its own box
+pub own-box : (k n x y : ℕ) → n < 8 → T (within (record { x = x; y = y }) (boundsAt k (eighth n) x y))
+own-box k n x y h =
+    subst (λ b. T (within (record { x = x; y = y }) b)) (sym (box-reaches k n x y h))
+    (passes (within-reads (record { x = x; y = y }) (reached k n x y)) (record { x-low = omega arith; x-high = omega arith; y-low = omega arith; y-high = omega arith }))
 
 -- ---- a mirror leaves a contact's box
 swapped : (a b c d : ℕ) → boxOf (record { x = b; y = c }) (record { x = a; y = d }) ≡ boxOf (record { x = a; y = c }) (record { x = b; y = d })
@@ -100,24 +118,24 @@ swapped a b c d =
     let f : max b a ≡ max a b = omega arith in
     λ i. record { low = record { x = e i; y = min c d }; high = record { x = f i; y = max c d } }
 
-abbrev Kept : ℕ → ℕ → RotMirror → Type 0
-Kept x y o = boundsAt 1 (mirrorOf o) x y ≡ boundsAt 1 o x y
+abbrev Kept : ℕ → ℕ → ℕ → Type 0
+Kept x y n = boundsAt 1 (eighth (turnBy mirrors n)) x y ≡ boundsAt 1 (eighth n) x y
 
-pub mirror-box : (o : RotMirror) (x y : ℕ) → T (known o) → boundsAt 1 (mirrorOf o) x y ≡ boundsAt 1 o x y
-mirror-box o x y t =
+pub mirror-box : (n x y : ℕ) → n < 8 → boundsAt 1 (eighth (turnBy mirrors n)) x y ≡ boundsAt 1 (eighth n) x y
+mirror-box n x y h =
     let l : ℕ = put x (negsuc 49) in
     let r : ℕ = put x (pos 50) in
     let m : ℕ = put x (negsuc 99) in
-    let n : ℕ = put x (pos 100) in
+    let p : ℕ = put x (pos 100) in
     let u : ℕ = put y (negsuc 99) in
     let d : ℕ = put y (pos 100) in
     let v : ℕ = put y (negsuc 49) in
     let w : ℕ = put y (pos 50) in
-    of-eight (Kept x y)
-    (swapped l r u d, (swapped n m v w, (swapped r l d u, (swapped m n w v, (swapped r l u d, (swapped n m w v, (swapped l r d u, (swapped m n v w, tt)))))))) o t
+    below-8 (Kept x y)
+    (swapped m p v w, (swapped l r d u, (swapped p m w v, (swapped r l u d, (swapped m p w v, (swapped r l d u, (swapped p m v w, (swapped l r u d, tt)))))))) n h
 
-pub mirror-aabb : (o : RotMirror) (x y : ℕ) → T (known o) → aabbOf 1 (mirrorOf o) x y ≡ aabbOf 1 o x y
+pub mirror-aabb : (n : ℕ) (x y : ℕ) → n < 8 → aabbOf 1 (turnBy mirrors n) x y ≡ aabbOf 1 n x y
 unfolding aabbOf refusalOf
-mirror-aabb o x y t =
-    let k = is-known (mirrorOf o) (mirror-known o t) ∙ sym (is-known o t) in
-    λ i. boundsFor (cond (k i) (cond (insideOf x && insideOf y) 0 1) 4) (mirror-box o x y t i)
+mirror-aabb n x y h =
+    let k = lt-ltb (turnBy mirrors n) 8 (mirror-stays n h) ∙ sym (lt-ltb n 8 h) in
+    λ i. boundsFor (cond (k i) (cond (insideOf x && insideOf y) 0 1) 4) (mirror-box n x y h i)

@@ -1,7 +1,7 @@
 -- No number of a component's point is cut off: its coordinate is the sum of document 01, over the whole numbers. And every point lies in
 -- 50 to 11,950, so that none is a row of zeros, and each is a place for a wire's end.
 use mathlib.Core.Path.{_≡_, subst}
-use Prim.Native.Nat.{ℕ, zero, suc, _+_, _≤_}
+use Prim.Native.Nat.{ℕ, zero, suc, _+_, _≤_, _<_}
 use native.Mathlib.Omega.{arith}
 use mathlib.Core.Bool.{Bool, _&&_}
 use mathlib.Core.List.{Memᴰ·of-map as ∈-map}
@@ -11,9 +11,10 @@ use lib.ListN.{length}
 use Rattle.lists.specs.Lists.{_∈_}
 use Rattle.lists.proofs.Tests.{both-l, both-r}
 use Rattle.lists.proofs.Lists.{in-cons, in-one}
-use Rattle.orientation.specs.Orientations.{known}
+use Rattle.orientation.specs.Orientations.{eighth}
 use Rattle.orientation.specs.Rows.{Row, plus-x, minus-x, plus-y, minus-y}
 use Rattle.orientation.proofs.Eight.{known-rows}
+use Rattle.orientation.proofs.Turns.{eighth-known}
 use Rattle.orientation.specs.declared.RotMirror.{RotMirror}
 use Rattle.edge.specs.Coordinates.{coordOf, biased}
 use Rattle.edge.proofs.Whole.{row-plus-left, row-minus-left, row-plus-right, row-minus-right, size-neg, size-added, added, pos-sub, neg-sub-suc}
@@ -42,7 +43,7 @@ high-near zero = tt
 high-near (suc zero) = tt
 high-near (suc (suc k)) = tt
 
-module _ (o : RotMirror) (k : T (known o)) (q : Offset) (t : T (near q)) where
+module _ (n : ℕ) (h : n < 8) (q : Offset) (t : T (near q)) where
   in-x : natAbs (q .dx) ≤ 150
   in-x = leb→le (natAbs (q .dx)) 150 (both-l (leb (natAbs (q .dx)) 150) (leb (natAbs (q .dy)) 150) t)
 
@@ -50,11 +51,11 @@ module _ (o : RotMirror) (k : T (known o)) (q : Offset) (t : T (near q)) where
   in-y = leb→le (natAbs (q .dy)) 150 (both-r (leb (natAbs (q .dx)) 150) (leb (natAbs (q .dy)) 150) t)
 
   -- and so they are turned
-  turned-x : natAbs (applied o q .dx) ≤ 150
-  turned-x = size-row (q .dx) (q .dy) 150 in-x in-y (known-rows o k .0)
+  turned-x : natAbs (applied (eighth n) q .dx) ≤ 150
+  turned-x = size-row (q .dx) (q .dy) 150 in-x in-y (known-rows (eighth n) (eighth-known n h) .0)
 
-  turned-y : natAbs (applied o q .dy) ≤ 150
-  turned-y = size-row (q .dx) (q .dy) 150 in-x in-y (known-rows o k .1)
+  turned-y : natAbs (applied (eighth n) q .dy) ≤ 150
+  turned-y = size-row (q .dx) (q .dy) 150 in-x in-y (known-rows (eighth n) (eighth-known n h) .1)
 
 -- ---- the sums of document 01
 pub record Exact (o : RotMirror) (x y : ℕ) (q : Offset) : Type 0 where
@@ -73,47 +74,47 @@ pub record Ranged (p : Point) : Type 0 where
   pub in-x : (50 ≤ p .x) × (p .x ≤ 11950)
   pub in-y : (50 ≤ p .y) × (p .y ≤ 11950)
 
-reached-ranged : {o : RotMirror} {x y : ℕ} {p : Point} → Positioned o x y → Reached x y p → Ranged p
+reached-ranged : {n x y : ℕ} {p : Point} → Positioned n x y → Reached x y p → Ranged p
 reached-ranged s r = record { in-x = (omega arith, omega arith); in-y = (omega arith, omega arith) }
 
 put-reach : (p : ℕ) (z : ℤ) → 200 ≤ p → natAbs z ≤ 150 → (p ≤ biased (coordOf p +ℤ z) + 150) × (biased (coordOf p +ℤ z) ≤ p + 150)
 put-reach p (pos n) f h = let e = added p n 0 (pos n) (pos-sub n) in (omega arith, omega arith)
 put-reach p (negsuc n) f h = let e = added p 0 (suc n) (negsuc n) (neg-sub-suc n) in (omega arith, omega arith)
 
-module _ (o : RotMirror) (x y : ℕ) (s : Positioned o x y) where
-  pub exact : (q : Offset) → T (near q) → Exact o x y q
+module _ (n x y : ℕ) (s : Positioned n x y) where
+  pub exact : (q : Offset) → T (near q) → Exact (eighth n) x y q
   exact q t = record {
-    in-x = put-exact x (applied o q .dx) (s .left) (s .right) (turned-x o (s .turned) q t);
-    in-y = put-exact y (applied o q .dy) (s .top) (s .bottom) (turned-y o (s .turned) q t);
+    in-x = put-exact x (applied (eighth n) q .dx) (s .left) (s .right) (turned-x n (s .turned) q t);
+    in-y = put-exact y (applied (eighth n) q .dy) (s .top) (s .bottom) (turned-y n (s .turned) q t);
   }
 
-  reached : (q : Offset) → T (near q) → Reached x y (movedOf o x y q)
+  reached : (q : Offset) → T (near q) → Reached x y (movedOf (eighth n) x y q)
   reached q t = record {
-    in-x = put-reach x (applied o q .dx) (s .left) (turned-x o (s .turned) q t);
-    in-y = put-reach y (applied o q .dy) (s .top) (turned-y o (s .turned) q t);
+    in-x = put-reach x (applied (eighth n) q .dx) (s .left) (turned-x n (s .turned) q t);
+    in-y = put-reach y (applied (eighth n) q .dy) (s .top) (turned-y n (s .turned) q t);
   }
 
   -- ---- the pads and the corners of every kind
   module _ (k : ℕ) where
-    pub pads-exact : (q : Offset) → q ∈ padsAt k → Exact o x y q
+    pub pads-exact : (q : Offset) → q ∈ padsAt k → Exact (eighth n) x y q
     pads-exact q m = exact q (pads-near k q m)
 
-    pub corners-exact : Exact o x y (lowAt k) × Exact o x y (highAt k)
+    pub corners-exact : Exact (eighth n) x y (lowAt k) × Exact (eighth n) x y (highAt k)
     corners-exact = (exact (lowAt k) tt, exact (highAt k) (high-near k))
 
-    pub pads-reached : (p : Point) → p ∈ padPoints k o x y → Reached x y p
-    pads-reached p m = let q = ∈-map (movedOf o x y) (padsAt k) m in subst (Reached x y) (q .2) (reached (q .0) (pads-near k (q .0) (q .1)))
+    pub pads-reached : (p : Point) → p ∈ padPoints k (eighth n) x y → Reached x y p
+    pads-reached p m = let q = ∈-map (movedOf (eighth n) x y) (padsAt k) m in subst (Reached x y) (q .2) (reached (q .0) (pads-near k (q .0) (q .1)))
 
-    pub pads-ranged : (p : Point) → p ∈ padPoints k o x y → Ranged p
+    pub pads-ranged : (p : Point) → p ∈ padPoints k (eighth n) x y → Ranged p
     pads-ranged p m = reached-ranged s (pads-reached p m)
 
-    pub box-reached : Reached x y (boundsAt k o x y .low) × Reached x y (boundsAt k o x y .high)
+    pub box-reached : Reached x y (boundsAt k (eighth n) x y .low) × Reached x y (boundsAt k (eighth n) x y .high)
     box-reached =
         let l = reached (lowAt k) tt in
         let h = reached (highAt k) (high-near k) in
         (record { in-x = (omega arith, omega arith); in-y = (omega arith, omega arith) }, record { in-x = (omega arith, omega arith); in-y = (omega arith, omega arith) })
 
-    pub box-ranged : Ranged (boundsAt k o x y .low) × Ranged (boundsAt k o x y .high)
+    pub box-ranged : Ranged (boundsAt k (eighth n) x y .low) × Ranged (boundsAt k (eighth n) x y .high)
     box-ranged = (reached-ranged s (box-reached .0), reached-ranged s (box-reached .1))
 
 pub pads-few : (k : ℕ) (o : RotMirror) (x y : ℕ) → length (padPoints k o x y) ≤ 3

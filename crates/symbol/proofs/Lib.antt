@@ -1,4 +1,4 @@
-pub mod Rows
+pub mod Moving
 pub mod Tables
 pub mod Symbols
 pub mod Exact

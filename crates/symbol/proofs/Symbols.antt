@@ -1,15 +1,13 @@
 -- The refusals: what the tests of a kind, an orientation and a position tell, and the answers of `pads` and `aabb`.
 use mathlib.Core.Path.{_≡_, refl, sym, ap, _∙_}
-use Prim.Native.Nat.{ℕ, zero, suc, _≤_}
+use Prim.Native.Nat.{ℕ, zero, suc, _≤_, _<_}
 use native.Mathlib.Omega.{arith}
 use mathlib.Core.Bool.{Bool, true, false, _&&_, cond}
 use mathlib.Core.List.{[]}
-use lib.Dec.{T, leb, leb→le}
-use borrow.Author.Tests.{le-leb}
+use lib.Dec.{T, leb, leb→le, ltb, ltb→lt}
+use borrow.Author.Tests.{le-leb, lt-ltb}
 use Rattle.lists.proofs.Tests.{both-l, both-r}
-use Rattle.orientation.specs.Orientations.{known}
-use Rattle.orientation.specs.declared.RotMirror.{RotMirror}
-use Rattle.orientation.proofs.Turns.{is-known}
+use Rattle.orientation.specs.Orientations.{eighth}
 use Rattle.edge.specs.Coordinates.{insideOf}
 use Rattle.symbol.specs.Symbols.{knownSymbol, unused, block, boxOf, refusalOf, padBlock, boundsAt, padsFor, boundsFor, padsReplyOf, aabbOf, Placeable}
 use Rattle.symbol.specs.declared.PadBlock.{PadBlock}
@@ -21,21 +19,21 @@ above-zero : {A : Type 0} (f g : ℕ → A) → ((k : ℕ) → f (suc k) ≡ g (
 above-zero f g h zero n = absurd (n refl)
 above-zero f g h (suc k) n = h k
 
-module _ (kind : ℕ) (o : RotMirror) (x y : ℕ) where
+module _ (kind : ℕ) (n : ℕ) (x y : ℕ) where
   -- the reply, by what the two tests give
-  pub refuse : (k p : Bool) → knownSymbol kind o ≡ k → (insideOf x && insideOf y) ≡ p → cond k (cond p 0 1) 4 ≡ refusalOf kind o x y
+  pub refuse : (k p : Bool) → knownSymbol kind n ≡ k → (insideOf x && insideOf y) ≡ p → cond k (cond p 0 1) 4 ≡ refusalOf kind n x y
   unfolding refusalOf
   refuse k p e f = sym (λ i. cond (e i) (cond (f i) 0 1) 4)
 
   -- the tests, read
-  pub tests-placeable : T (knownSymbol kind o) → T (insideOf x && insideOf y) → Placeable kind o x y
+  pub tests-placeable : T (knownSymbol kind n) → T (insideOf x && insideOf y) → Placeable kind n x y
   tests-placeable k t =
       let tx = both-l (insideOf x) (insideOf y) t in
       let ty = both-r (insideOf x) (insideOf y) t in
       record {
-        of-kind = leb→le kind 2 (both-l (leb kind 2) (known o) k);
+        of-kind = leb→le kind 2 (both-l (leb kind 2) (ltb n 8) k);
         sound = record {
-          turned = both-r (leb kind 2) (known o) k;
+          turned = ltb→lt n 8 (both-r (leb kind 2) (ltb n 8) k);
           left = leb→le 200 x (both-l (leb 200 x) (leb x 11800) tx);
           right = leb→le x 11800 (both-r (leb 200 x) (leb x 11800) tx);
           top = leb→le 200 y (both-l (leb 200 y) (leb y 11800) ty);
@@ -44,35 +42,35 @@ module _ (kind : ℕ) (o : RotMirror) (x y : ℕ) where
       }
 
   -- what reply 0 tells
-  pub placeable : refusalOf kind o x y ≡ 0 → Placeable kind o x y
+  pub placeable : refusalOf kind n x y ≡ 0 → Placeable kind n x y
   unfolding refusalOf
-  placeable = go (knownSymbol kind o) (insideOf x && insideOf y) tests-placeable
+  placeable = go (knownSymbol kind n) (insideOf x && insideOf y) tests-placeable
     where
-      go : (p r : Bool) → (T p → T r → Placeable kind o x y) → _≡_ {A = ℕ} (cond p (cond r 0 1) 4) 0 → Placeable kind o x y
+      go : (p r : Bool) → (T p → T r → Placeable kind n x y) → _≡_ {A = ℕ} (cond p (cond r 0 1) 4) 0 → Placeable kind n x y
       go true true m e = m tt tt
       go true false m e = absurd (let z : ⊥ = omega arith in z)
       go false r m e = absurd (let z : ⊥ = omega arith in z)
 
   -- and back
-  pub unrefused : Placeable kind o x y → refusalOf kind o x y ≡ 0
+  pub unrefused : Placeable kind n x y → refusalOf kind n x y ≡ 0
   unrefused h =
       let s = h .sound in
-      let row : (n : ℕ) → 200 ≤ n → n ≤ 11800 → insideOf n ≡ true = λ n f g. λ i. le-leb 200 n f i && le-leb n 11800 g i in
-      sym (refuse true true (λ i. le-leb kind 2 (h .of-kind) i && is-known o (s .turned) i) (λ i. row x (s .left) (s .right) i && row y (s .top) (s .bottom) i))
+      let row : (m : ℕ) → 200 ≤ m → m ≤ 11800 → insideOf m ≡ true = λ m f g. λ i. le-leb 200 m f i && le-leb m 11800 g i in
+      sym (refuse true true (λ i. le-leb kind 2 (h .of-kind) i && lt-ltb n 8 (s .turned) i) (λ i. row x (s .left) (s .right) i && row y (s .top) (s .bottom) i))
 
   -- ---- the answers: zeros where the call is refused, else what the drawing of a lawful component gives
-  pub pads-refused : (r : ℕ) → r ≡ refusalOf kind o x y → (r ≡ 0 → ⊥) → _≡_ {A = PadsReply} (record { reply = r; pads = block [] }) (padsReplyOf kind o x y)
+  pub pads-refused : (r : ℕ) → r ≡ refusalOf kind n x y → (r ≡ 0 → ⊥) → _≡_ {A = PadsReply} (record { reply = r; pads = block [] }) (padsReplyOf kind n x y)
   unfolding padsReplyOf
-  pads-refused r e n = let f : ℕ → PadsReply = λ k. padsFor k (padBlock kind o x y) in above-zero (λ k. record { reply = k; pads = block [] }) f (λ k. refl) r n ∙ ap f e
+  pads-refused r e z = let f : ℕ → PadsReply = λ k. padsFor k (padBlock kind (eighth n) x y) in above-zero (λ k. record { reply = k; pads = block [] }) f (λ k. refl) r z ∙ ap f e
 
-  pub pads-given : (p : PadBlock) → refusalOf kind o x y ≡ 0 → p ≡ padBlock kind o x y → _≡_ {A = PadsReply} (record { reply = 0; pads = p }) (padsReplyOf kind o x y)
+  pub pads-given : (p : PadBlock) → refusalOf kind n x y ≡ 0 → p ≡ padBlock kind (eighth n) x y → _≡_ {A = PadsReply} (record { reply = 0; pads = p }) (padsReplyOf kind n x y)
   unfolding padsReplyOf
-  pads-given p z e = (λ i. record { reply = 0; pads = e i }) ∙ sym (ap (λ (k : ℕ). padsFor k (padBlock kind o x y)) z)
+  pads-given p z e = (λ i. record { reply = 0; pads = e i }) ∙ sym (ap (λ (k : ℕ). padsFor k (padBlock kind (eighth n) x y)) z)
 
-  pub box-refused : (r : ℕ) → r ≡ refusalOf kind o x y → (r ≡ 0 → ⊥) → _≡_ {A = BoundsReply} (record { reply = r; bounds = record { low = unused; high = unused } }) (aabbOf kind o x y)
+  pub box-refused : (r : ℕ) → r ≡ refusalOf kind n x y → (r ≡ 0 → ⊥) → _≡_ {A = BoundsReply} (record { reply = r; bounds = record { low = unused; high = unused } }) (aabbOf kind n x y)
   unfolding aabbOf
-  box-refused r e n = let f : ℕ → BoundsReply = λ k. boundsFor k (boundsAt kind o x y) in above-zero (λ k. record { reply = k; bounds = boxOf unused unused }) f (λ k. refl) r n ∙ ap f e
+  box-refused r e z = let f : ℕ → BoundsReply = λ k. boundsFor k (boundsAt kind (eighth n) x y) in above-zero (λ k. record { reply = k; bounds = boxOf unused unused }) f (λ k. refl) r z ∙ ap f e
 
-  pub box-given : (b : Bounds) → refusalOf kind o x y ≡ 0 → b ≡ boundsAt kind o x y → _≡_ {A = BoundsReply} (record { reply = 0; bounds = b }) (aabbOf kind o x y)
+  pub box-given : (b : Bounds) → refusalOf kind n x y ≡ 0 → b ≡ boundsAt kind (eighth n) x y → _≡_ {A = BoundsReply} (record { reply = 0; bounds = b }) (aabbOf kind n x y)
   unfolding aabbOf
-  box-given b z e = (λ i. record { reply = 0; bounds = e i }) ∙ sym (ap (λ (k : ℕ). boundsFor k (boundsAt kind o x y)) z)
+  box-given b z e = (λ i. record { reply = 0; bounds = e i }) ∙ sym (ap (λ (k : ℕ). boundsFor k (boundsAt kind (eighth n) x y)) z)

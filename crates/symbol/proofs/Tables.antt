@@ -1,17 +1,20 @@
 -- The code's tables are the document's: each of the three kinds has its pads and its box, 200 more in each number, and the map takes 200 off.
 use mathlib.Core.Path.{_≡_, refl, sym, ap, _∙_}
-use Prim.Native.Nat.{ℕ, zero, suc, _+_, _≤_}
+use Prim.Native.Nat.{ℕ, zero, suc, _+_, _%_, _≤_, _<_}
 use native.Mathlib.Omega.{arith}
 use native.Mathlib.Numerals.{add-one}
 use mathlib.Core.List.{List, [], _∷_}
 use lib.Dec.{T, leb, leb→le}
 use lib.ListN.{getD, set}
+use Rattle.orientation.specs.Orientations.{eighth}
 use Rattle.orientation.specs.declared.RotMirror.{RotMirror}
-use Rattle.symbol.specs.Symbols.{movedOf, unused, boxOf, padBlock, boundsAt, Positioned}
-use Rattle.symbol.specs.Steps.{offsetOf, mapFirst, Near, Mapping}
+use Rattle.orientation.proofs.Eight.{below-8}
+use Rattle.symbol.specs.Symbols.{movedOf, unused, padBlock, boundsAt, Positioned, Placeable}
+use Rattle.symbol.specs.Steps.{offsetOf, mapFirst, reachingOf, Near, Mapping, Reaching}
 use Rattle.symbol.specs.declared.Point.{Point}
 use Rattle.symbol.specs.declared.PadBlock.{PadBlock}
 use Rattle.symbol.specs.declared.Bounds.{Bounds}
+use Rattle.symbol.proofs.Boxes.{reached, box-reaches}
 
 abbrev at : ℕ → ℕ → Point
 at x y = record { x = x; y = y }
@@ -26,11 +29,9 @@ padTable =
 abbrev pub storedPads : ℕ → PadBlock
 storedPads k = getD padTable k (record { points = []; count = 0 })
 
-abbrev boxTable : List Bounds
-boxTable = record { low = at 150 100; high = at 250 200 } ∷ record { low = at 150 100; high = at 250 300 } ∷ record { low = at 150 100; high = at 250 350 } ∷ []
-
-abbrev pub storedBox : ℕ → Bounds
-storedBox k = getD boxTable k (record { low = unused; high = unused })
+-- how far the box of a kind reaches on the side of A and B
+abbrev pub depth : ℕ → ℕ
+depth k = getD (0 ∷ 100 ∷ 150 ∷ []) k 0
 
 -- what holds of the three kinds
 of-kinds : (P : ℕ → Type 0) → P 0 → P 1 → P 2 → (k : ℕ) → k ≤ 2 → P k
@@ -52,16 +53,16 @@ near-three p q r u v w (suc zero) = v
 near-three p q r u v w (suc (suc zero)) = w
 near-three p q r u v w (suc (suc (suc k))) = none
 
-pub mapping : (k : ℕ) (o : RotMirror) (x y : ℕ) → k ≤ 2 → Positioned o x y → Mapping (storedPads k .points) (storedPads k .count) o x y
-mapping k o x y h s =
-    of-kinds (λ (k : ℕ). Mapping (storedPads k .points) (storedPads k .count) o x y)
+pub mapping : (k n x y : ℕ) → k ≤ 2 → Positioned n x y → Mapping (storedPads k .points) (storedPads k .count) n x y
+mapping k n x y h s =
+    of-kinds (λ (k : ℕ). Mapping (storedPads k .points) (storedPads k .count) n x y)
     (record { few = omega arith; sound = s; near = near-three (at 200 200) unused unused (near 200 200 tt tt) none none })
     (record { few = omega arith; sound = s; near = near-three (at 200 100) (at 150 300) (at 250 300) (near 200 100 tt tt) (near 150 300 tt tt) (near 250 300 tt tt) })
     (record { few = omega arith; sound = s; near = near-three (at 200 100) unused unused (near 200 100 tt tt) none none })
     k h
 
-pub box-near : (k : ℕ) → k ≤ 2 → Near (storedBox k .low) × Near (storedBox k .high)
-box-near = of-kinds (λ (k : ℕ). Near (storedBox k .low) × Near (storedBox k .high)) (near 150 100 tt tt, near 250 200 tt tt) (near 150 100 tt tt, near 250 300 tt tt) (near 150 100 tt tt, near 250 350 tt tt)
+pub shallow : (k : ℕ) → k ≤ 2 → depth k ≤ 150
+shallow = of-kinds (λ (k : ℕ). depth k ≤ 150) (omega arith) (omega arith) (omega arith)
 
 -- ---- the first n of a list, mapped
 module _ (f : Point → Point) (d : Point) where
@@ -85,5 +86,30 @@ module _ (o : RotMirror) (x y : ℕ) where
       (λ i. record { points = e i; count = storedPads k .count })
       ∙ of-kinds (λ (k : ℕ). _≡_ {A = PadBlock} (record { points = mapFirst put (storedPads k .count) (storedPads k .points); count = storedPads k .count }) (padBlock k o x y)) refl refl refl k h
 
-  pub box-made : (k : ℕ) → k ≤ 2 → {r : Bounds} {p q : Point} → p ≡ put (storedBox k .low) → q ≡ put (storedBox k .high) → r ≡ boxOf p q → r ≡ boundsAt k o x y
-  box-made k h e f g = g ∙ (λ i. boxOf (e i) (f i)) ∙ of-kinds (λ (k : ℕ). boxOf (put (storedBox k .low)) (put (storedBox k .high)) ≡ boundsAt k o x y) refl refl refl k h
+-- ---- the box of a kind, by the number: a turn to the right takes each side to the next, and a mirror leaves the box
+
+-- after that many turns to the right
+abbrev pub turnedBox : ℕ → ℕ → ℕ → ℕ → Bounds
+turnedBox d zero x y = reachingOf x y 50 100 50 d
+turnedBox d (suc zero) x y = reachingOf x y d 50 100 50
+turnedBox d (suc (suc zero)) x y = reachingOf x y 50 d 50 100
+turnedBox d (suc (suc (suc n))) x y = reachingOf x y 100 50 d 50
+
+abbrev Boxed : ℕ → ℕ → ℕ → ℕ → Type 0
+Boxed k x y n = reached k n x y ≡ turnedBox (depth k) (n % 4) x y
+
+bounds-number : (k n x y : ℕ) → k ≤ 2 → n < 8 → boundsAt k (eighth n) x y ≡ turnedBox (depth k) (n % 4) x y
+bounds-number k n x y h l =
+    box-reaches k n x y l
+    ∙ of-kinds (λ (k : ℕ). Boxed k x y n)
+    (below-8 (Boxed 0 x y) (refl, (refl, (refl, (refl, (refl, (refl, (refl, (refl, tt)))))))) n l)
+    (below-8 (Boxed 1 x y) (refl, (refl, (refl, (refl, (refl, (refl, (refl, (refl, tt)))))))) n l)
+    (below-8 (Boxed 2 x y) (refl, (refl, (refl, (refl, (refl, (refl, (refl, (refl, tt)))))))) n l)
+    k h
+
+module _ {k n x y : ℕ} (p : Placeable k n x y) where
+  pub reaches : {l u r d : ℕ} → l ≤ 150 → u ≤ 150 → r ≤ 150 → d ≤ 150 → Reaching x y l u r d
+  reaches f g h i = let s = p .sound in record { from-x = (s .left, s .right); from-y = (s .top, s .bottom); low = (f, g); high = (h, i) }
+
+  pub box-made : (t : ℕ) {b : Bounds} → n % 4 ≡ t → b ≡ turnedBox (depth k) t x y → b ≡ boundsAt k (eighth n) x y
+  box-made t e q = q ∙ sym (bounds-number k n x y (p .of-kind) (p .sound .turned) ∙ ap (λ (t : ℕ). turnedBox (depth k) t x y) e)

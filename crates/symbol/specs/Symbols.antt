@@ -1,11 +1,11 @@
 -- The symbols of document 01: boxes and pads, turned, moved to a position, and the refusals, in the numbers that rows hold.
-use Prim.Native.Nat.{ℕ, zero, suc, min, max, _≤_}
+use Prim.Native.Nat.{ℕ, zero, suc, min, max, _≤_, _<_}
 use mathlib.Core.Bool.{Bool, _&&_, cond}
 use mathlib.Core.List.{List, [], _∷_, _++_, map}
-use lib.Dec.{T, leb, eqb}
+use lib.Dec.{leb, ltb, eqb}
 use lib.IntN.{ℤ, pos, negℤ, _+ℤ_, _*ℤ_}
 use lib.ListN.{length, take}
-use Rattle.orientation.specs.Orientations.{known}
+use Rattle.orientation.specs.Orientations.{eighth}
 use Rattle.orientation.specs.declared.RotMirror.{RotMirror}
 use Rattle.edge.specs.Coordinates.{coordOf, biased, insideOf}
 use Rattle.symbol.specs.declared.Point.{Point}
@@ -86,15 +86,15 @@ boxOf p q = record {
 abbrev pub boundsAt : ℕ → RotMirror → ℕ → ℕ → Bounds
 boundsAt kind o x y = boxOf (movedOf o x y (lowAt kind)) (movedOf o x y (highAt kind))
 
--- "4: unknown kind, or not one of the eight orientations": the kind is known, and the orientation one of the eight
-abbrev pub knownSymbol : ℕ → RotMirror → Bool
-knownSymbol kind o = leb kind 2 && known o
+-- "4: unknown kind, or not one of the eight orientations"; "For orientations, reply 4 is now a number outside 0 to 7" (document 02, P1)
+abbrev pub knownSymbol : ℕ → ℕ → Bool
+knownSymbol kind n = leb kind 2 && ltb n 8
 
 -- ---- "A box, pads or a turn asked of a bad kind, orientation or position get 4 or 1, in that order, and zeros for every number."
 
 -- 4, 1, or 0 for neither
-unfoldable pub refusalOf : ℕ → RotMirror → ℕ → ℕ → ℕ
-refusalOf kind o x y = cond (knownSymbol kind o) (cond (insideOf x && insideOf y) 0 1) 4
+unfoldable pub refusalOf : ℕ → ℕ → ℕ → ℕ → ℕ
+refusalOf kind n x y = cond (knownSymbol kind n) (cond (insideOf x && insideOf y) 0 1) 4
 
 -- the pads, or the refusal and zeros
 abbrev pub padsFor : ℕ → PadBlock → PadsReply
@@ -107,12 +107,12 @@ boundsFor zero b = record { reply = 0; bounds = b }
 boundsFor (suc n) b = record { reply = suc n; bounds = boxOf unused unused }
 
 -- the pads asked of a symbol
-unfoldable pub padsReplyOf : ℕ → RotMirror → ℕ → ℕ → PadsReply
-padsReplyOf kind o x y = padsFor (refusalOf kind o x y) (padBlock kind o x y)
+unfoldable pub padsReplyOf : ℕ → ℕ → ℕ → ℕ → PadsReply
+padsReplyOf kind n x y = padsFor (refusalOf kind n x y) (padBlock kind (eighth n) x y)
 
 -- the box asked of a symbol
-unfoldable pub aabbOf : ℕ → RotMirror → ℕ → ℕ → BoundsReply
-aabbOf kind o x y = boundsFor (refusalOf kind o x y) (boundsAt kind o x y)
+unfoldable pub aabbOf : ℕ → ℕ → ℕ → ℕ → BoundsReply
+aabbOf kind n x y = boundsFor (refusalOf kind n x y) (boundsAt kind (eighth n) x y)
 
 -- "no two component boxes share a point, edges counted": the test whether two do
 abbrev pub touchesOf : Bounds → Bounds → Bool
@@ -121,14 +121,14 @@ touchesOf a b = leb (a .low .x) (b .high .x) && (leb (b .low .x) (a .high .x) &&
 -- ---- what is known of a component in a lawful drawing
 
 -- one of the eight orientations, and a position from -5,800 to 5,800
-pub record Positioned (o : RotMirror) (x y : ℕ) : Type 0 where
-  pub turned : T (known o)
+pub record Positioned (n x y : ℕ) : Type 0 where
+  pub turned : n < 8
   pub left : 200 ≤ x
   pub right : x ≤ 11800
   pub top : 200 ≤ y
   pub bottom : y ≤ 11800
 
 -- and one of the three kinds
-pub record Placeable (kind : ℕ) (o : RotMirror) (x y : ℕ) : Type 0 where
+pub record Placeable (kind n x y : ℕ) : Type 0 where
   pub of-kind : kind ≤ 2
-  pub sound : Positioned o x y
+  pub sound : Positioned n x y

@@ -1,11 +1,9 @@
 // The symbols: pads and boxes of components, turned and moved, in the numbers that rows hold.
 ghost use mathlib.Core.Path.{_≡_};
-ghost use Prim.Native.Nat.{min, max};
-ghost use lib.IntN.{subℕ, _+ℤ_, _*ℤ_};
-ghost use Rattle.edge.specs.Coordinates.{coordOf, biased};
-ghost use Rattle.symbol.specs.Symbols.{Positioned, Placeable, knownSymbol, canTurn, movedOf, padBlock, boxOf, boundsAt, refusalOf, padsReplyOf, aabbOf, touchesOf};
-ghost use Rattle.symbol.specs.Steps.{offsetOf, mapFirst, Near, Along, Mapping};
-use orientation::RotMirror;
+ghost use Prim.Native.Nat.{_≤_, min, max};
+ghost use Rattle.orientation.specs.Orientations.{eighth};
+ghost use Rattle.symbol.specs.Symbols.{Positioned, Placeable, knownSymbol, canTurn, movedOf, padBlock, boundsAt, refusalOf, padsReplyOf, aabbOf, touchesOf};
+ghost use Rattle.symbol.specs.Steps.{offsetOf, alongOf, mapFirst, reachingOf, Near, Mapping, Reaching};
 
 // A point as rows hold it: each coordinate and 6,000 more. A row of zeros is no point.
 pub struct Point {
@@ -59,21 +57,13 @@ const PADS: [PadBlock; 3] = [
     },
 ];
 
-// The boxes of the kinds, each number 200 more.
-const BOXES: [Bounds; 3] = [
-    Bounds {
-        low: Point { x: 150, y: 100 },
-        high: Point { x: 250, y: 200 },
-    },
-    Bounds {
-        low: Point { x: 150, y: 100 },
-        high: Point { x: 250, y: 300 },
-    },
-    Bounds {
-        low: Point { x: 150, y: 100 },
-        high: Point { x: 250, y: 350 },
-    },
-];
+// How far the box of each kind reaches on the side where a contact has A and B: 100 on the side of C and 50 on the other two.
+const DEPTHS: [u16; 3] = [0, 100, 150];
+
+// Whether the orientation of each number takes a point's x, and its y, back from the position. The odd ones take y to x and x to y.
+const BACK_X: [bool; 8] = [false, true, true, false, true, true, false, false];
+
+const BACK_Y: [bool; 8] = [false, false, true, true, false, true, true, false];
 
 // Whether a component of this kind turns or mirrors in place: only contacts do.
 pub fn can_turn(kind: u8) -> bool
@@ -82,45 +72,47 @@ pub fn can_turn(kind: u8) -> bool
     kind == 1
 }
 
-// One coordinate of a symbol's point, a * dx + b * dy from the position p, where dx and dy are given as 200 more.
-fn along(a: i8, b: i8, dx: u16, dy: u16, p: u16) -> u16
-    requires { ⌜ Along a b dx dy p ⌝ }
-    ensures { λ r. ⌜ r ≡ biased (coordOf p +ℤ (a *ℤ subℕ dx 200 +ℤ b *ℤ subℕ dy 200)) ⌝ }
+// One coordinate of a symbol's point: d, given as 200 more, on from p or back from it.
+fn along(back: bool, d: u16, p: u16) -> u16
+    requires { ⌜ (d ≤ 400) × ((200 ≤ p) × (p ≤ 11800)) ⌝ }
+    ensures { λ r. ⌜ r ≡ alongOf back d p ⌝ }
 {
-    if a == 1 {
-        return p + dx - 200;
+    if back {
+        return p + 200 - d;
     }
-    if a == -1 {
-        return p + 200 - dx;
-    }
-    if b == 1 {
-        return p + dy - 200;
-    }
-    p + 200 - dy
+    p + d - 200
 }
 
-// A point of a symbol, each number given as 200 more, turned by o and moved to the position (x, y).
-fn moved(o: RotMirror, q: Point, x: u16, y: u16) -> Point
-    requires { ⌜ Positioned o x y × Near q ⌝ }
-    ensures { λ r. ⌜ r ≡ movedOf o x y (offsetOf q) ⌝ }
+// A point of a symbol, each number given as 200 more, turned by the orientation numbered n and moved to the position (x, y).
+fn moved(n: u8, q: Point, x: u16, y: u16) -> Point
+    requires { ⌜ Positioned n x y × Near q ⌝ }
+    ensures { λ r. ⌜ r ≡ movedOf (eighth n) x y (offsetOf q) ⌝ }
 {
-    let rx = along(o.0, o.1, q.x, q.y, x);
-    let ry = along(o.2, o.3, q.x, q.y, y);
-    Point { x: rx, y: ry }
+    let i = n as usize;
+    if n % 2 == 0 {
+        return Point {
+            x: along(BACK_X[i], q.x, x),
+            y: along(BACK_Y[i], q.y, y),
+        };
+    }
+    Point {
+        x: along(BACK_X[i], q.y, x),
+        y: along(BACK_Y[i], q.x, y),
+    }
 }
 
-// Whether the kind is known and the orientation is one of the eight: else a call is refused with 4.
-pub fn is_known(kind: u8, o: RotMirror) -> bool
-    ensures { λ r. ⌜ r ≡ knownSymbol kind o ⌝ }
+// Whether the kind is known and the number is one of the eight orientations': else a call is refused with 4.
+pub fn is_known(kind: u8, n: u8) -> bool
+    ensures { λ r. ⌜ r ≡ knownSymbol kind n ⌝ }
 {
-    (kind <= 2) & orientation::is_known(o)
+    (kind <= 2) & (n < 8)
 }
 
 // 4 for an unknown kind or orientation, 1 for a position outside, else 0.
-fn refusal(kind: u8, o: RotMirror, x: u16, y: u16) -> u8
-    ensures { λ r. ⌜ r ≡ refusalOf kind o x y ⌝ }
+fn refusal(kind: u8, n: u8, x: u16, y: u16) -> u8
+    ensures { λ r. ⌜ r ≡ refusalOf kind n x y ⌝ }
 {
-    if is_known(kind, o) {
+    if is_known(kind, n) {
         if edge::is_position(x) & edge::is_position(y) {
             0
         } else {
@@ -132,40 +124,40 @@ fn refusal(kind: u8, o: RotMirror, x: u16, y: u16) -> u8
 }
 
 // The first count points, mapped through orientation and position; those behind stay.
-fn mapped(points: [Point; 3], count: usize, o: RotMirror, x: u16, y: u16) -> [Point; 3]
-    requires { ⌜ Mapping points count o x y ⌝ }
-    ensures { λ r. ⌜ r ≡ mapFirst (λ q. movedOf o x y (offsetOf q)) count points ⌝ }
+fn mapped(points: [Point; 3], count: usize, n: u8, x: u16, y: u16) -> [Point; 3]
+    requires { ⌜ Mapping points count n x y ⌝ }
+    ensures { λ r. ⌜ r ≡ mapFirst (λ q. movedOf (eighth n) x y (offsetOf q)) count points ⌝ }
 {
     let mut out = points;
     let mut i = 0;
     while i < count {
         let q = points[i];
-        out[i] = moved(o, q, x, y);
+        out[i] = moved(n, q, x, y);
         i += 1;
     }
     out
 }
 
 // The pads of a component that a lawful drawing may hold.
-pub fn pads_at(kind: u8, o: RotMirror, x: u16, y: u16) -> PadBlock
-    requires { ⌜ Placeable kind o x y ⌝ }
-    ensures { λ r. ⌜ r ≡ padBlock kind o x y ⌝ }
+pub fn pads_at(kind: u8, n: u8, x: u16, y: u16) -> PadBlock
+    requires { ⌜ Placeable kind n x y ⌝ }
+    ensures { λ r. ⌜ r ≡ padBlock kind (eighth n) x y ⌝ }
 {
     let k = kind as usize;
     let p = PADS[k];
     let points = p.points;
     let count = p.count;
     PadBlock {
-        points: mapped(points, count, o, x, y),
+        points: mapped(points, count, n, x, y),
         count,
     }
 }
 
 // The pads of a component: 0 and the block of points, or the refusal and zeros.
-pub fn pads(kind: u8, o: RotMirror, x: u16, y: u16) -> PadsReply
-    ensures { λ r. ⌜ r ≡ padsReplyOf kind o x y ⌝ }
+pub fn pads(kind: u8, n: u8, x: u16, y: u16) -> PadsReply
+    ensures { λ r. ⌜ r ≡ padsReplyOf kind n x y ⌝ }
 {
-    let reply = refusal(kind, o, x, y);
+    let reply = refusal(kind, n, x, y);
     if reply != 0 {
         let none = PadBlock {
             points: [UNUSED, UNUSED, UNUSED],
@@ -175,7 +167,7 @@ pub fn pads(kind: u8, o: RotMirror, x: u16, y: u16) -> PadsReply
     }
     PadsReply {
         reply: 0,
-        pads: pads_at(kind, o, x, y),
+        pads: pads_at(kind, n, x, y),
     }
 }
 
@@ -193,40 +185,47 @@ pub fn greater(a: u16, b: u16) -> u16
     if a < b { b } else { a }
 }
 
-// The box with the corners p and q.
-fn corners(p: Point, q: Point) -> Bounds
-    ensures { λ r. ⌜ r ≡ boxOf p q ⌝ }
+// The box that reaches so far to each side of (x, y).
+fn reaching(x: u16, y: u16, left: u16, up: u16, right: u16, down: u16) -> Bounds
+    requires { ⌜ Reaching x y left up right down ⌝ }
+    ensures { λ r. ⌜ r ≡ reachingOf x y left up right down ⌝ }
 {
     let low = Point {
-        x: lesser(p.x, q.x),
-        y: lesser(p.y, q.y),
+        x: x - left,
+        y: y - up,
     };
     let high = Point {
-        x: greater(p.x, q.x),
-        y: greater(p.y, q.y),
+        x: x + right,
+        y: y + down,
     };
     Bounds { low, high }
 }
 
-// The box of a component that a lawful drawing may hold.
-pub fn bounds_at(kind: u8, o: RotMirror, x: u16, y: u16) -> Bounds
-    requires { ⌜ Placeable kind o x y ⌝ }
-    ensures { λ r. ⌜ r ≡ boundsAt kind o x y ⌝ }
+// The box of a component that a lawful drawing may hold: a turn to the right takes each side to the next, a mirror leaves the box.
+pub fn bounds_at(kind: u8, n: u8, x: u16, y: u16) -> Bounds
+    requires { ⌜ Placeable kind n x y ⌝ }
+    ensures { λ r. ⌜ r ≡ boundsAt kind (eighth n) x y ⌝ }
 {
     let k = kind as usize;
-    let b = BOXES[k];
-    let low = b.low;
-    let high = b.high;
-    let p = moved(o, low, x, y);
-    let q = moved(o, high, x, y);
-    corners(p, q)
+    let depth = DEPTHS[k];
+    let rights = n % 4;
+    if rights == 0 {
+        return reaching(x, y, 50, 100, 50, depth);
+    }
+    if rights == 1 {
+        return reaching(x, y, depth, 50, 100, 50);
+    }
+    if rights == 2 {
+        return reaching(x, y, 50, depth, 50, 100);
+    }
+    reaching(x, y, 100, 50, depth, 50)
 }
 
 // The box of a component: 0 and its corners, or the refusal and zeros.
-pub fn aabb(kind: u8, o: RotMirror, x: u16, y: u16) -> BoundsReply
-    ensures { λ r. ⌜ r ≡ aabbOf kind o x y ⌝ }
+pub fn aabb(kind: u8, n: u8, x: u16, y: u16) -> BoundsReply
+    ensures { λ r. ⌜ r ≡ aabbOf kind n x y ⌝ }
 {
-    let reply = refusal(kind, o, x, y);
+    let reply = refusal(kind, n, x, y);
     if reply != 0 {
         let none = Bounds {
             low: UNUSED,
@@ -239,7 +238,7 @@ pub fn aabb(kind: u8, o: RotMirror, x: u16, y: u16) -> BoundsReply
     }
     BoundsReply {
         reply: 0,
-        bounds: bounds_at(kind, o, x, y),
+        bounds: bounds_at(kind, n, x, y),
     }
 }
 

@@ -8,8 +8,6 @@ use denote.Triple.Table.{entered, cited}
 use Rattle.redraw.specs.declared.Edited.{Edited}
 use Rattle.redraw.specs.Calls.{addComponent}
 use Rattle.schematic.specs.Calls.{checked}
-use Rattle.orientation.proofs.RotMirror as O
-use Rattle.orientation.proofs.RotMirror.Laws as O′
 use Rattle.label.proofs.Label as L
 use Rattle.label.proofs.Label.Laws as L′
 use Rattle.schematic.proofs.add_component as g
@@ -28,5 +26,5 @@ unfolding code.routine tablesOf
 add-component-spec 𝓤 H 𝓜 𝓖 𝓡 =
     entered 𝓤 H (tripleOf 𝓤 H (𝓖 .A) f.signature (f.spec 𝓤 H (𝓖 .A) (𝓜 .mem) (𝓡 .run)))
     (tables 𝓤 H 𝓜 𝓡 code.env .C) (tables 𝓤 H 𝓜 𝓡 code.env .Λ) #f code.function (code.unfolded 𝓤 H 𝓜 𝓡)
-    (meets-thin (a-drawing ∷ a-uint w8 ∷ a-struct O.the-type O′.the-laws O′.the-plain (λ _. tt) (λ _ _. refl) ∷ a-int w32 ∷ a-int w32 ∷ a-struct L.the-type L′.the-laws L′.the-plain (λ _. tt) (λ _ _. refl) ∷ []) 𝓤 H (𝓖 .A) (λ d k o x y l h (r : Edited). r ≡ checked d h (addComponent d k o x y l h)) (givenOf 𝓤 H 𝓜 𝓖) (tablesOf 𝓤 H 𝓜 (tables 𝓤 H 𝓜 𝓡 code.env)) #g
+    (meets-thin (a-drawing ∷ a-uint w8 ∷ a-uint w8 ∷ a-int w32 ∷ a-int w32 ∷ a-struct L.the-type L′.the-laws L′.the-plain (λ _. tt) (λ _ _. refl) ∷ []) 𝓤 H (𝓖 .A) (λ d k o x y l h (r : Edited). r ≡ checked d h (addComponent d k o x y l h)) (givenOf 𝓤 H 𝓜 𝓖) (tablesOf 𝓤 H 𝓜 (tables 𝓤 H 𝓜 𝓡 code.env)) #g
     (cited 𝓤 H (tripleOf 𝓤 H (𝓖 .A) g.signature (g.spec 𝓤 H (𝓖 .A) (𝓜 .mem) (𝓡 .run))) 𝓜 𝓡 code.env #g g-def.routine code.calls-schematic·add-component (g-thm.met 𝓤 H 𝓜 𝓖 𝓡)))

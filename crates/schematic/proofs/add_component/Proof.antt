@@ -22,7 +22,7 @@ add-component-on-requires c κs = let s = c .before .before .before in lawful-fo
 
 returns-2 : tie.Need-returns-2
 returns-2 c = let s = c .before .before .before .before in
-    c .add-component-on .ensures ∙ handed-two (λ x y. addComponent (s .args .d) (s .args .kind) (s .args .rot-mirror) x y (s .args .label) (s .args .t)) _ _ (s .fits .x) (s .fits .y)
+    c .add-component-on .ensures ∙ handed-two (λ x y. addComponent (s .args .d) (s .args .kind) (s .args .orientation) x y (s .args .label) (s .args .t)) _ _ (s .fits .x) (s .fits .y)
     ∙ lawful-edited (s .args .d) (c .before .before .before .check .ensures) (s .args .t) _ (c .before .if1 .left)
 
 pub add-component-spec : {M : Type 1} → statement M

@@ -8,9 +8,6 @@ use Rattle.step.proofs.place.Tie as tie
 choice-requires : tie.Need-choice-requires
 choice-requires c κs = search needs
 
-numbered-requires : tie.Need-numbered-requires
-numbered-requires c κs = search needs
-
 choice-requires-2 : tie.Need-choice-requires-2
 choice-requires-2 c κs = search needs
 
@@ -23,16 +20,15 @@ add-component-on-requires c κs = search needs
 returns : tie.Need-returns
 returns c =
     let b = c .before in
-    let s = b .before .before .before .before .before .before in
+    let s = b .before .before .before .before in
     c .add-component-on .ensures ∙ placed-is _ _ _ _ _ _ (s .fits .kind) (s .fits .orient) (s .fits .x) (s .fits .y)
-    (b .before .choice2 .ensures) (b .before .before .before .before .choice .ensures) (b .before .before .before .numbered .ensures) (b .label-of .ensures)
+    (b .before .before .choice .ensures) (b .before .choice2 .ensures) (b .label-of .ensures)
 
 pub place-spec : {M : Type 1} → statement M
 place-spec =
     tie.close
     (tie.spec
     choice-requires
-    numbered-requires
     choice-requires-2
     label-of-requires
     add-component-on-requires

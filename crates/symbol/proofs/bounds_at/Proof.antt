@@ -1,30 +1,51 @@
--- `symbol::bounds_at` meets its contract: the two corners of the table, moved, whose box the definition has.
+-- `symbol::bounds_at` meets its contract: after so many turns to the right the box reaches as the definition has it.
 use borrow.Author.Needs.{needs}
-use Rattle.symbol.proofs.Tables.{box-near, box-made}
+use native.Mathlib.Omega.{arith}
+use Rattle.symbol.proofs.Tables.{shallow, reaches, box-made}
 use Rattle.symbol.proofs.bounds_at.Statement.{statement}
 use Rattle.symbol.proofs.bounds_at.Tie as tie
 
-mul-b : tie.Need-mul-b
-mul-b c = search needs
+mul-depth : tie.Need-mul-depth
+mul-depth c = search needs
 
-array-copy-out-b : tie.Need-array-copy-out-b
-array-copy-out-b c = search needs
+array-read-depth : tie.Need-array-read-depth
+array-read-depth c = search needs
 
-moved-requires : tie.Need-moved-requires
-moved-requires c κs = let s = c .before .before .before in (s .pre .sound, box-near (s .args .kind) (s .pre .of-kind) .0)
-
-moved-requires-2 : tie.Need-moved-requires-2
-moved-requires-2 c κs = let s = c .before .before .before .before in (s .pre .sound, box-near (s .args .kind) (s .pre .of-kind) .1)
-
-corners-requires : tie.Need-corners-requires
-corners-requires c κs = search needs
+reaching-requires : tie.Need-reaching-requires
+reaching-requires c κs = let s = c .before in reaches (s .pre) (omega arith) (omega arith) (omega arith) (shallow (s .args .kind) (s .pre .of-kind))
 
 returns : tie.Need-returns
-returns c =
-    let s = c .before .before .before .before .before .before in
-    box-made (s .args .o) (s .args .x) (s .args .y) (s .args .kind) (s .pre .of-kind) (c .before .before .moved .ensures) (c .before .moved2 .ensures) (c .corners .ensures)
+returns c = box-made (c .before .before .pre) 0 (c .before .if1 .taken) (c .reaching .ensures)
+
+reaching-requires-2 : tie.Need-reaching-requires-2
+reaching-requires-2 c κs = let s = c .before .before in reaches (s .pre) (shallow (s .args .kind) (s .pre .of-kind)) (omega arith) (omega arith) (omega arith)
+
+returns-2 : tie.Need-returns-2
+returns-2 c = box-made (c .before .before .before .pre) 1 (c .before .if2 .taken) (c .reaching2 .ensures)
+
+reaching-requires-3 : tie.Need-reaching-requires-3
+reaching-requires-3 c κs = let s = c .before .before .before in reaches (s .pre) (omega arith) (shallow (s .args .kind) (s .pre .of-kind)) (omega arith) (omega arith)
+
+returns-3 : tie.Need-returns-3
+returns-3 c = box-made (c .before .before .before .before .pre) 2 (c .before .if3 .taken) (c .reaching3 .ensures)
+
+reaching-requires-4 : tie.Need-reaching-requires-4
+reaching-requires-4 c κs = let s = c .before .before .before in reaches (s .pre) (omega arith) (omega arith) (shallow (s .args .kind) (s .pre .of-kind)) (omega arith)
+
+returns-4 : tie.Need-returns-4
+returns-4 c = box-made (c .before .before .before .before .pre) 3 (omega (arith, c .before .before .before .if1 .left, c .before .before .if2 .left, c .before .if3 .left)) (c .reaching4 .ensures)
 
 pub bounds-at-spec : {M : Type 1} → statement M
 bounds-at-spec =
     tie.close
-    (tie.spec mul-b array-copy-out-b moved-requires moved-requires-2 corners-requires returns)
+    (tie.spec
+    mul-depth
+    array-read-depth
+    reaching-requires
+    returns
+    reaching-requires-2
+    returns-2
+    reaching-requires-3
+    returns-3
+    reaching-requires-4
+    returns-4)

@@ -3,6 +3,7 @@ use Prim.Native.Nat.{_≤_, _-_}
 use borrow.Author.Needs.{needs}
 use mathlib.Core.Path.{_≡_, refl, _∙_}
 use native.Mathlib.Omega.{arith}
+use Rattle.orientation.specs.Orientations.{eighth}
 use Rattle.symbol.specs.Symbols.{movedOf, unused}
 use Rattle.symbol.specs.Steps.{offsetOf, mapFirst}
 use Rattle.symbol.specs.declared.Point.{Point}
@@ -11,10 +12,10 @@ use Rattle.symbol.proofs.mapped.Statement.{statement}
 use Rattle.symbol.proofs.mapped.Tie as tie
 
 abbrev Inv-loop : tie.InvT-loop
-Inv-loop count o x y points out₀ i₀ out i = (i ≤ count) × (out ≡ mapFirst (λ q. movedOf o x y (offsetOf q)) i points)
+Inv-loop count n x y points out₀ i₀ out i = (i ≤ count) × (out ≡ mapFirst (λ q. movedOf (eighth n) x y (offsetOf q)) i points)
 
 abbrev μ-loop : tie.MeasureT-loop
-μ-loop count o x y points out₀ i₀ out i = count - i
+μ-loop count n x y points out₀ i₀ out i = count - i
 
 loop-holds : tie.Need-loop-holds Inv-loop μ-loop
 loop-holds c = (search needs, refl)
@@ -44,14 +45,14 @@ loop-again : tie.Need-loop-again Inv-loop μ-loop
 loop-again c =
     let l = c .before .before .before in
     let s = l .before .args in
-    (omega arith, again (λ (q : Point). movedOf (s .o) (s .x) (s .y) (offsetOf q)) unused (l .loop .i) (s .t1) (l .loop .inv .1) (c .moved .ensures))
+    (omega arith, again (λ (q : Point). movedOf (eighth (s .n)) (s .x) (s .y) (offsetOf q)) unused (l .loop .i) (s .t1) (l .loop .inv .1) (c .moved .ensures))
 
 returns : tie.Need-returns Inv-loop μ-loop
 returns c =
     let l = c .before in
     let s = l .before .args in
     let e : l .loop .i ≡ s .count = omega arith in
-    l .loop .inv .1 ∙ (λ j. mapFirst (λ (q : Point). movedOf (s .o) (s .x) (s .y) (offsetOf q)) (e j) (s .t1))
+    l .loop .inv .1 ∙ (λ j. mapFirst (λ (q : Point). movedOf (eighth (s .n)) (s .x) (s .y) (offsetOf q)) (e j) (s .t1))
 
 pub mapped-spec : {M : Type 1} → statement M
 mapped-spec =

@@ -20,18 +20,18 @@ returns : tie.Need-returns
 returns c =
     let k = c .before .before .before .before in
     let s = k .before .args in
-    refuse (s .kind) (s .o) (s .x) (s .y) true true (sym (k .is-known .ensures) ∙ c .before .before .before .if1 .taken) (sym (λ i. c .before .before .is-position .ensures i && c .before .is-position2 .ensures i) ∙ c .if2 .taken)
+    refuse (s .kind) (s .n) (s .x) (s .y) true true (sym (k .is-known .ensures) ∙ c .before .before .before .if1 .taken) (sym (λ i. c .before .before .is-position .ensures i && c .before .is-position2 .ensures i) ∙ c .if2 .taken)
 
 returns-2 : tie.Need-returns-2
 returns-2 c =
     let k = c .before .before .before .before in
     let s = k .before .args in
-    refuse (s .kind) (s .o) (s .x) (s .y) true false (sym (k .is-known .ensures) ∙ c .before .before .before .if1 .taken) (sym (λ i. c .before .before .is-position .ensures i && c .before .is-position2 .ensures i) ∙ c .if2 .left)
+    refuse (s .kind) (s .n) (s .x) (s .y) true false (sym (k .is-known .ensures) ∙ c .before .before .before .if1 .taken) (sym (λ i. c .before .before .is-position .ensures i && c .before .is-position2 .ensures i) ∙ c .if2 .left)
 
 returns-3 : tie.Need-returns-3
 returns-3 c =
     let s = c .before .before .args in
-    refuse (s .kind) (s .o) (s .x) (s .y) false (insideOf (s .x) && insideOf (s .y)) (sym (c .before .is-known .ensures) ∙ c .if1 .left) refl
+    refuse (s .kind) (s .n) (s .x) (s .y) false (insideOf (s .x) && insideOf (s .y)) (sym (c .before .is-known .ensures) ∙ c .if1 .left) refl
 
 pub refusal-spec : {M : Type 1} → statement M
 refusal-spec =

@@ -16,9 +16,6 @@ cast-put-count c = search needs
 put-count-requires : tie.Need-put-count-requires
 put-count-requires c κs = search needs
 
-orient-requires : tie.Need-orient-requires
-orient-requires c κs = search needs
-
 cast-put-count-2 : tie.Need-cast-put-count-2
 cast-put-count-2 c = search needs
 
@@ -36,7 +33,7 @@ put-label-requires c κs = search needs
 
 put-byte-requires-2 : tie.Need-put-byte-requires-2
 put-byte-requires-2 c κs =
-    omega (arith, c .before .before .before .before .before .before .before .before .before .before .before .before .before .before .before .before .before .before .before .before .before .before .before .before .before .before .before .before .before .before .pre, c .before .before .before .before .before .before .before .before .before .before .before .before .before .before .before .before .before .before .before .before .before .before .before .before .before .put-byte .ensures .behind, c .before .before .before .before .before .before .before .before .before .before .before .before .before .before .before .before .before .before .before .before .put-count .ensures, c .before .before .before .before .before .before .before .before .before .before .before .before .before .before .before .put-count2 .ensures, c .before .before .before .before .before .before .before .before .before .before .before .put-place .ensures, c .before .before .before .before .before .before .before .put-place2 .ensures, c .before .before .before .put-label .ensures)
+    omega (arith, c .before .before .before .before .before .before .before .before .before .before .before .before .before .before .before .before .before .before .before .before .before .before .before .before .before .before .before .before .before .pre, c .before .before .before .before .before .before .before .before .before .before .before .before .before .before .before .before .before .before .before .before .before .before .before .before .before .put-byte .ensures .behind, c .before .before .before .before .before .before .before .before .before .before .before .before .before .before .before .before .before .before .before .before .put-count .ensures, c .before .before .before .before .before .before .before .before .before .before .before .before .before .before .before .put-count2 .ensures, c .before .before .before .before .before .before .before .before .before .before .before .put-place .ensures, c .before .before .before .before .before .before .before .put-place2 .ensures, c .before .before .before .put-label .ensures)
 
 same-length : tie.Need-same-length
 same-length c = search needs
@@ -44,7 +41,7 @@ same-length c = search needs
 returns : tie.Need-returns
 unfolding componentLine
 returns c =
-    puts-then (puts-byte (c .before .before .before .before .before .before .before .before .before .before .before .before .before .before .before .before .before .before .before .before .before .before .before .before .before .before .before .before .put-byte .ensures)) (puts-then (c .before .before .before .before .before .before .before .before .before .before .before .before .before .before .before .before .before .before .before .before .before .before .before .put-count .ensures) (puts-then (puts-as (ap countWord (c .before .before .before .before .before .before .before .before .before .before .before .before .before .before .before .before .before .before .before .orient .ensures)) (c .before .before .before .before .before .before .before .before .before .before .before .before .before .before .before .before .before .before .put-count2 .ensures)) (puts-then (c .before .before .before .before .before .before .before .before .before .before .before .before .before .before .put-place .ensures) (puts-then (c .before .before .before .before .before .before .before .before .before .before .put-place2 .ensures) (puts-then (c .before .before .before .before .before .before .put-label .ensures) (puts-byte (c .before .before .put-byte2 .ensures)))))))
+    puts-then (puts-byte (c .before .before .before .before .before .before .before .before .before .before .before .before .before .before .before .before .before .before .before .before .before .before .before .before .before .before .before .before .put-byte .ensures)) (puts-then (c .before .before .before .before .before .before .before .before .before .before .before .before .before .before .before .before .before .before .before .before .before .before .before .put-count .ensures) (puts-then (c .before .before .before .before .before .before .before .before .before .before .before .before .before .before .before .before .before .before .put-count2 .ensures) (puts-then (c .before .before .before .before .before .before .before .before .before .before .before .before .before .before .put-place .ensures) (puts-then (c .before .before .before .before .before .before .before .before .before .before .put-place2 .ensures) (puts-then (c .before .before .before .before .before .before .put-label .ensures) (puts-byte (c .before .before .put-byte2 .ensures)))))))
 
 pub put-component-spec : {M : Type 1} → statement M
 put-component-spec =
@@ -53,7 +50,6 @@ put-component-spec =
     put-byte-requires
     cast-put-count
     put-count-requires
-    orient-requires
     cast-put-count-2
     put-count-requires-2
     put-place-requires

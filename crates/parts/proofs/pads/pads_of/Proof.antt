@@ -8,7 +8,7 @@ pads-at-requires : tie.Need-pads-at-requires
 pads-at-requires c κs = search needs
 
 returns : tie.Need-returns
-returns c = pad-block (c .before .before .args .c) (c .pads-at .ensures)
+returns c = pad-block (c .before .args .c) (c .pads-at .ensures)
 
 pub pads-of-spec : {M : Type 1} → statement M
 pads-of-spec = tie.close (tie.spec pads-at-requires returns)
