@@ -10,3 +10,4 @@ pub mod Passes
 pub mod Places
 pub mod Somes
 pub mod Finding
+pub mod Mapped

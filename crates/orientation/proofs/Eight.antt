@@ -1,9 +1,9 @@
 -- One of the eight: what holds of each of the eight, and of each number below 8.
-use mathlib.Core.Path.{_≡_, refl, sym, ap, _∙_, subst}
+use mathlib.Core.Path.{_≡_, sym, ap, subst}
 use Prim.Native.Nat.{ℕ, zero, suc, _<_}
 use native.Mathlib.Nat.{eq-or-lt-of-le, le-of-suc-le-suc}
 use native.Mathlib.Omega.{arith}
-use mathlib.Core.Bool.{Bool, true, false}
+use mathlib.Core.Bool.{Bool}
 use mathlib.Core.List.{List, [], _∷_, List·Memᴰ·head as ∈-head, List·Memᴰ·tail as ∈-tail}
 use mathlib.Core.Logic.{⊎-elim}
 use lib.Dec.{T, eqb→eq, eqb-refl}
@@ -55,7 +55,7 @@ eqZ-reads z y = reads (eqZ z y) (into z y) (λ e. subst (λ w. T (eqZ z w)) e (s
     self (pos n) = eqb-refl n
     self (negsuc n) = eqb-refl n
 
-pub same-reads : (o p : RotMirror) → Reads (o ≡ p) (sameOf o p)
+same-reads : (o p : RotMirror) → Reads (o ≡ p) (sameOf o p)
 unfolding sameOf
 same-reads o p = reads-as (
   λ t. λ i. rotMirror (t .0 i) (t .1 .0 i) (t .1 .1 .0 i) (t .1 .1 .1 i),

@@ -4,20 +4,20 @@ use mathlib.Core.Path.{_≡_, refl, sym, ap, _∙_, subst}
 use Prim.Native.Nat.{ℕ, zero, suc, _<_, _≤_}
 use native.Mathlib.Nat.{le-of-suc-le-suc}
 use native.Mathlib.Omega.{arith}
-use mathlib.Core.Bool.{Bool, cond, not, _||_}
-use mathlib.Core.Logic.{⊎-elim}
+use mathlib.Core.Bool.{Bool, cond}
 use mathlib.Core.List.{List, [], _∷_}
-use lib.Dec.{T, eqb, ltb, ltb→lt}
+use lib.Dec.{T, ltb, ltb→lt}
 use lib.IntN.{negℤ-negℤ}
 use lib.ListN.{length, getD, List·getD-eq-default}
 use borrow.Author.Tests.{lt-ltb, le-ltb}
 use Rattle.lists.specs.Lists.{any, all}
-use Rattle.lists.proofs.Tests.{Reads, pass, fail, holds, or-reads, not-reads, eqb-reads, ltb-reads}
-use Rattle.orientation.specs.Orientations.{rotMirror, eight, zeros, sameOf, known, eighth, numberedOf, fourAre, noFour, turnIs, noTurn, turnBy, turnedBy, rights, lefts, mirrors, rightOf, leftOf, mirrorOf}
+use Rattle.lists.specs.Places.{span}
+use Rattle.lists.proofs.Tests.{Reads, pass, fail, ltb-reads}
+use Rattle.orientation.specs.Orientations.{rotMirror, eight, zeros, sameOf, known, eighth, numberOf, numberedOf, fourAre, noFour, turnIs, noTurn, turnBy, turnedBy, rights, lefts, mirrors, rightOf, leftOf, mirrorOf}
 use Rattle.orientation.specs.declared.RotMirror.{RotMirror}
 use Rattle.orientation.specs.declared.FourNumbers.{FourNumbers}
 use Rattle.orientation.specs.declared.Turned.{Turned}
-use Rattle.orientation.proofs.Eight.{Each, upTo, below-8, test-8, same-reads, of-eight}
+use Rattle.orientation.proofs.Eight.{Each, upTo, below-8, test-8, of-eight}
 
 -- ---- on any four numbers
 pub left-right : (o : RotMirror) → leftOf (rightOf o) ≡ o
@@ -72,18 +72,15 @@ known-number = every (λ (n : ℕ). known (eighth n) ≡ ltb n 8) (refl, (refl, 
 pub eighth-known : (n : ℕ) → n < 8 → T (known (eighth n))
 eighth-known n h = subst T (sym (known-number n ∙ lt-ltb n 8 h)) tt
 
--- each of the eight has a number
-pub eighth-onto : (o : RotMirror) → T (known o) → (n : ℕ) × n < 8 × eighth n ≡ o
-eighth-onto = of-eight (λ (o : RotMirror). (n : ℕ) × n < 8 × eighth n ≡ o)
-    ((0, omega arith, refl), ((1, omega arith, refl), ((2, omega arith, refl), ((3, omega arith, refl), ((4, omega arith, refl), ((5, omega arith, refl), ((6, omega arith, refl), ((7, omega arith, refl), tt))))))))
+-- the number of four numbers that are one of the eight, and back
+pub number-eighth : (n : ℕ) → n < 8 → numberOf (eighth n) ≡ n
+unfolding span sameOf
+number-eighth = below-8 (λ (n : ℕ). numberOf (eighth n) ≡ n) (refl, (refl, (refl, (refl, (refl, (refl, (refl, (refl, tt))))))))
 
--- and no two numbers have the same four
-pub eighth-one : (m n : ℕ) → m < 8 → n < 8 → eighth m ≡ eighth n → m ≡ n
-unfolding sameOf all
-eighth-one m n h k e =
-    let apart : T (all (λ (n : ℕ). not (sameOf (eighth m) (eighth n)) || eqb m n) (upTo 8)) = test-8 (λ (m : ℕ). all (λ (n : ℕ). not (sameOf (eighth m) (eighth n)) || eqb m n) (upTo 8)) tt m h in
-    ⊎-elim (λ no. absurd (no e)) (λ yes. yes)
-    (holds (or-reads (not-reads (same-reads (eighth m) (eighth n))) (eqb-reads m n)) (test-8 (λ (n : ℕ). not (sameOf (eighth m) (eighth n)) || eqb m n) apart n k))
+pub eighth-number : (o : RotMirror) → T (known o) → (numberOf o < 8) × (eighth (numberOf o) ≡ o)
+unfolding span sameOf
+eighth-number = of-eight (λ (o : RotMirror). (numberOf o < 8) × (eighth (numberOf o) ≡ o))
+    ((omega arith, refl), ((omega arith, refl), ((omega arith, refl), ((omega arith, refl), ((omega arith, refl), ((omega arith, refl), ((omega arith, refl), ((omega arith, refl), tt))))))))
 
 -- ---- each turn takes the numbers 0 to 7 to themselves
 abbrev pub Stays : List ℕ → Type 0

@@ -1,11 +1,12 @@
 -- The eight orientations by their numbers, and the three turns.
 use Prim.Native.Nat.{ℕ}
-use mathlib.Core.Bool.{Bool, false, _&&_, cond}
+use mathlib.Core.Bool.{Bool, false, _&&_, cond, not}
 use mathlib.Core.List.{List, [], _∷_}
 use lib.Dec.{eqb, ltb}
 use lib.IntN.{ℤ, pos, negsuc, negℤ}
 use lib.ListN.{getD}
 use Rattle.lists.specs.Lists.{any}
+use Rattle.lists.specs.Places.{span}
 use Rattle.orientation.specs.declared.RotMirror.{RotMirror}
 use Rattle.orientation.specs.declared.FourNumbers.{FourNumbers}
 use Rattle.orientation.specs.declared.Turned.{Turned}
@@ -51,6 +52,10 @@ zeros = rotMirror (pos 0) (pos 0) (pos 0) (pos 0)
 -- the four numbers of a number; zeros, which are none of the eight, where it is none of 0 to 7
 abbrev pub eighth : ℕ → RotMirror
 eighth n = getD eight n zeros
+
+-- the number of four numbers that are one of the eight: its place among them
+abbrev pub numberOf : RotMirror → ℕ
+numberOf o = span (λ p. not (sameOf o p)) eight
 
 -- "Turn right: (−c, −d, a, b)."
 abbrev pub rightOf : RotMirror → RotMirror

@@ -1,0 +1,31 @@
+-- The wiring list and the loose points of a plan (document 01, "Nets and the list").
+use Prim.Native.Nat.{ℕ}
+use mathlib.Core.List.{List, map}
+use lib.Dec.{eqb}
+use Rattle.lists.specs.Lists.{keep}
+use Rattle.label.specs.Labels.{labelPart}
+use Rattle.symbol.specs.declared.Point.{Point}
+use Rattle.nets.specs.Nets.{Net}
+use Rattle.nets.specs.Numbers.{byNumber, numbersOf}
+use Rattle.net_numbers.specs.Netted.{endsOf, numberOfJoint}
+use Rattle.netlist.specs.Listing.{Entry, nth, listWith, looseIn}
+use Rattle.four.specs.Plans.{Part, Plan, padsOf, joints}
+
+-- what joins the points of a plan: the wires and the power pads
+abbrev pub netOn : Plan → Net Point
+netOn s = record { links = map endsOf (s .wires); powers = padsOf (keep (λ c. eqb (c .kind) 0) (s .parts)) }
+
+-- the net numbers of all pads, "going through the components in row order and each one's pads in symbol order"
+unfoldable pub netNumbers : Plan → List ℕ
+netNumbers s = numbersOf (byNumber (numberOfJoint (joints s)) (netOn s)) (map (numberOfJoint (joints s)) (padsOf (s .parts)))
+
+-- what the list tells of a component besides its nets
+abbrev pub entry : Part → Entry
+entry c = record { kind = c .kind; label = labelPart (c .label) }
+
+unfoldable pub listOf : Plan → List ℕ
+listOf s = listWith (nth (netNumbers s)) (map entry (s .parts))
+
+-- "a loose point is a joint whose count is 1"
+unfoldable pub looseOf : Plan → ℕ
+looseOf s = looseIn (joints s)
