@@ -1,13 +1,11 @@
 // The run of a new wire, and the wires that it does not meet.
 ghost use mathlib.Core.Path.{_≡_};
-ghost use Prim.Native.Nat.{_≤_};
+ghost use Prim.Native.Nat.{_≤_, min, max};
 ghost use Rattle.sheet.specs.Run;
 ghost use Rattle.sheet.specs.Drawings.{wireRows};
 ghost use Rattle.wires.specs.Tables.{Tabled};
 use sheet::Wire;
 use sheet::Wires;
-use symbol::greater;
-use symbol::lesser;
 use wires::lines::meets;
 use wires::no_wires;
 
@@ -29,6 +27,20 @@ pub fn keep_unmet(ws: Wires, n: Wire) -> Wires
         i += 1;
     }
     out
+}
+
+// The lesser of two numbers.
+fn lesser(a: u16, b: u16) -> u16
+    ensures { λ r. ⌜ r ≡ min a b ⌝ }
+{
+    if a < b { a } else { b }
+}
+
+// The greater of two numbers.
+fn greater(a: u16, b: u16) -> u16
+    ensures { λ r. ⌜ r ≡ max a b ⌝ }
+{
+    if a < b { b } else { a }
 }
 
 // The run, reaching to the outermost ends of w too.

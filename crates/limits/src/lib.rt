@@ -130,8 +130,8 @@ fn in_rooms(d: Drawing) -> bool
     (d.wires.count <= 512) & ((d.components.count <= 128) & (d.joints.count <= 1408))
 }
 
-// Rule 1 holds. Two wrong answers that this rules out: a wire past the edge of the range fits (rule_1_wire_past_the_edge), and a joint row behind
-// the counts holds a count (rule_1_count_behind_the_counts).
+// Rule 1 holds. Three wrong answers that this rules out: a wire past the edge of the range fits (rule_1_wire_past_the_edge), a joint row behind
+// the counts holds a count (rule_1_count_behind_the_counts), a component row there an orientation (rule_1_orientation_behind_the_counts).
 pub fn within_limits(d: Drawing) -> bool
     ensures { λ r. ⌜ r ≡ check1 d ⌝ }
 {

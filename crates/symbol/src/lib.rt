@@ -1,6 +1,6 @@
 // The symbols: pads and boxes of components, turned and moved, in the numbers that rows hold.
 ghost use mathlib.Core.Path.{_≡_};
-ghost use Prim.Native.Nat.{_≤_, min, max};
+ghost use Prim.Native.Nat.{_≤_};
 ghost use Rattle.orientation.specs.Orientations.{eighth};
 ghost use Rattle.symbol.specs.Symbols.{Positioned, Placeable, knownSymbol, canTurn, movedOf, padBlock, boundsAt, refusalOf, padsReplyOf, aabbOf, touchesOf};
 ghost use Rattle.symbol.specs.Steps.{offsetOf, alongOf, mapFirst, reachingOf, Near, Mapping, Reaching};
@@ -169,20 +169,6 @@ pub fn pads(kind: u8, n: u8, x: u16, y: u16) -> PadsReply
         reply: 0,
         pads: pads_at(kind, n, x, y),
     }
-}
-
-// The lesser of two numbers.
-pub fn lesser(a: u16, b: u16) -> u16
-    ensures { λ r. ⌜ r ≡ min a b ⌝ }
-{
-    if a < b { a } else { b }
-}
-
-// The greater of two numbers.
-pub fn greater(a: u16, b: u16) -> u16
-    ensures { λ r. ⌜ r ≡ max a b ⌝ }
-{
-    if a < b { b } else { a }
 }
 
 // The box that reaches so far to each side of (x, y).
