@@ -1,7 +1,7 @@
 -- An edit by its number is the edit of that number, and reply 0 gives a lawful drawing.
 use Prim.Native.Nat.{ℕ, _≤_, _<_, _/_, _%_, _-_}
 use mathlib.Core.Bool.{true, false}
-use mathlib.Core.Path.{_≡_, refl, sym, subst}
+use mathlib.Core.Path.{_≡_, refl}
 use borrow.Author.Tests.{lt-ltb, le-ltb, ne-eqb}
 use lib.IntN.{ℤ}
 use Rattle.lists.proofs.Tests.{choose, eqb-reads, ltb-reads}

@@ -1,6 +1,5 @@
 -- The table, computed.
-use mathlib.Core.Path.{_≡_, refl}
-use mathlib.Core.List.{[], _∷_}
+use mathlib.Core.Path.{refl}
 use Rattle.lists.specs.Lists.{any, all, pairs, links, keep, insert, gather}
 use Rattle.lists.specs.Tables.{pad}
 use Rattle.lists.specs.Places.{span}

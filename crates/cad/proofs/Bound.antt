@@ -13,7 +13,6 @@ use Rattle.orientation.specs.Orientations.{eighth}
 use Rattle.orientation.proofs.Turns.{eighth-known}
 use Rattle.orientation.specs.declared.RotMirror.{RotMirror}
 use Rattle.label.specs.Labels.{heldLabel}
-use Rattle.label.specs.declared.Label.{Label}
 use Rattle.draw.specs.Symbols.{whole, drawsOf}
 use Rattle.draw.specs.Transforms.{floatPosition, transformOf}
 use Rattle.draw.specs.Bound.{CloseDraw, MarkPoint, CloseMark, stroke, ring}

@@ -64,10 +64,19 @@ fn turned(d: Draw, n: u8, t: Vector2) -> Draw
 }
 
 // Shape i of a component, by the order of symbol.rs. a and b are a contact's A and B, and a is a coil's state.
-pub fn component(kind: u8, n: u8, x: i32, y: i32, label: Label, i: usize, a: bool, b: bool) -> Shape
-    ensures { λ r. ⌜ shapeAnswer r ≡ componentShape kind n x y label i a b ⌝ }
+pub fn component(
+    kind: u8,
+    orientation: u8,
+    x: i32,
+    y: i32,
+    label: Label,
+    i: usize,
+    a: bool,
+    b: bool,
+) -> Shape
+    ensures { λ r. ⌜ shapeAnswer r ≡ componentShape kind orientation x y label i a b ⌝ }
 {
-    if !symbol::is_known(kind, n) {
+    if !symbol::is_known(kind, orientation) {
         return Shape::Unknown;
     }
     if !(is_position(x) & is_position(y)) {
@@ -78,7 +87,7 @@ pub fn component(kind: u8, n: u8, x: i32, y: i32, label: Label, i: usize, a: boo
         return Shape::Mislabelled;
     }
     match draw::shape(kind, i, a, b) {
-        Choice::Of(d) => Shape::Drawn(turned(d, n, convert(x, y))),
+        Choice::Of(d) => Shape::Drawn(turned(d, orientation, convert(x, y))),
         Choice::Nothing => Shape::NoShape,
     }
 }

@@ -3,7 +3,6 @@ use mathlib.Core.Path.{_≡_, refl}
 use mathlib.Core.Bool.{true, false}
 use mathlib.Core.List.{List, [], _∷_, map}
 use Prim.Native.String.{String}
-use lib.IntN.{pos, negsuc}
 use Rattle.edge.specs.Coordinates.{biased}
 use Rattle.script.specs.Grammar.{bytes}
 use Rattle.script.specs.Reading.{digitsOf, wholeOf, signedNumeral, numeralOf, fieldOf}

@@ -10,7 +10,7 @@ use borrow.Author.Tests.{le-leb}
 use lib.ListN.{length}
 use lib.IntN.{ℤ}
 use Rattle.lists.proofs.Tests.{choose, leb-reads, eqb-reads}
-use Rattle.script.specs.Grammar.{byte, _␣_, HasLabel, none, some}
+use Rattle.script.specs.Grammar.{byte, HasLabel, none, some}
 use Rattle.script.specs.Reading.{Front, found, missing, then, ending}
 use Rattle.script.proofs.Parts.{Stops, end, space, behind-by, field-by, field-is}
 use Rattle.check_script.specs.declared.Said.{Said}

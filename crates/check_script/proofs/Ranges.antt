@@ -1,6 +1,6 @@
 -- Numbers that a row can hold: what the two tests of the code say, and what is read by them.
 use mathlib.Core.Path.{_≡_, refl, sym, ap, subst, _∙_}
-use mathlib.Core.Bool.{Bool, true, false, cond}
+use mathlib.Core.Bool.{true, false}
 use mathlib.Core.List.{List}
 use Prim.Native.Nat.{ℕ, zero, suc, _+_, _-_, _<_, _≤_, _^_}
 use native.Mathlib.Omega.{arith}
@@ -13,7 +13,7 @@ use mir.Val.{SFits, Fits, toZ, ofZ}
 use mir.Facts.{toZ-pos}
 use Rattle.edge.specs.Coordinates.{toℕ, biased}
 use Rattle.edge.proofs.Whole.{sub-pos}
-use Rattle.script.specs.Reading.{Front, found, missing, fieldOf}
+use Rattle.script.specs.Reading.{found, missing, fieldOf}
 use Rattle.script.proofs.Signs.{back}
 use Rattle.check_script.specs.Reading.{fitted, fittedField}
 

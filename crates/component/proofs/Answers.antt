@@ -4,7 +4,7 @@ use Prim.Native.Nat.{ℕ, zero, suc}
 use native.Mathlib.Omega.{arith}
 use mathlib.Core.Bool.{Bool, true, false, _&&_, cond}
 use mathlib.Core.List.{[], _∷_, map}
-use lib.Dec.{T, leb, ltb, eqb}
+use lib.Dec.{T, ltb, eqb}
 use lib.IntN.{ℤ, pos, natAbs, _+ℤ_}
 use lib.ListN.{getD}
 use mir.Syntax.{w32}

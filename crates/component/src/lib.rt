@@ -46,10 +46,10 @@ fn shown(p: Point, used: bool) -> Position
 }
 
 // The pads of a component at (x, y), by their coordinates.
-pub fn component_pads(kind: u8, n: u8, x: i32, y: i32) -> PadsAnswer
-    ensures { λ r. ⌜ r ≡ componentPadsOf kind n x y ⌝ }
+pub fn component_pads(kind: u8, orientation: u8, x: i32, y: i32) -> PadsAnswer
+    ensures { λ r. ⌜ r ≡ componentPadsOf kind orientation x y ⌝ }
 {
-    let r = symbol::pads(kind, n, held(x), held(y));
+    let r = symbol::pads(kind, orientation, held(x), held(y));
     let reply = r.reply;
     let b = r.pads;
     let ps = b.points;
@@ -65,10 +65,10 @@ pub fn component_pads(kind: u8, n: u8, x: i32, y: i32) -> PadsAnswer
 }
 
 // The box of a component at (x, y), by its coordinates.
-pub fn component_box(kind: u8, n: u8, x: i32, y: i32) -> BoxAnswer
-    ensures { λ r. ⌜ r ≡ componentBoxOf kind n x y ⌝ }
+pub fn component_box(kind: u8, orientation: u8, x: i32, y: i32) -> BoxAnswer
+    ensures { λ r. ⌜ r ≡ componentBoxOf kind orientation x y ⌝ }
 {
-    let r = symbol::aabb(kind, n, held(x), held(y));
+    let r = symbol::aabb(kind, orientation, held(x), held(y));
     let reply = r.reply;
     let b = r.bounds;
     let l = b.low;

@@ -2,7 +2,7 @@
 use Prim.Native.Nat.{ℕ, suc}
 use mathlib.Core.Bool.{Bool, true, false, _&&_, cond}
 use mathlib.Core.List.{List, [], _∷_, map}
-use mathlib.Core.Path.{_≡_, refl, sym, ap, _∙_}
+use mathlib.Core.Path.{_≡_, refl, ap, _∙_}
 use lib.Dec.{leb, eqb}
 use lib.ListN.{drop}
 use Rattle.lists.specs.Lists.{all, links}
@@ -11,25 +11,23 @@ use Rattle.edge.specs.Coordinates.{insideOf}
 use Rattle.orientation.specs.Orientations.{sameOf}
 use Rattle.orientation.proofs.Turns.{known-number}
 use Rattle.label.specs.Labels.{labelOk, allZero}
-use Rattle.symbol.specs.declared.Point.{Point}
 use Rattle.sheet.specs.declared.Component.{Component}
 use Rattle.sheet.specs.declared.Drawing.{Drawing}
 use Rattle.sheet.specs.Points.{rises}
 use Rattle.sheet.specs.Lines.{marks}
 use Rattle.sheet.specs.Joints.{place}
-use Rattle.sheet.specs.Parts.{padsOf, ahead, touches}
+use Rattle.sheet.specs.Parts.{padsOf, ahead}
 use Rattle.sheet.specs.Drawings.{listsOf, jointRows}
 use Rattle.limits.specs.Limits.{blankWire, blankJoint, blankComponent, wireFits, componentFits}
 use Rattle.limits.specs.Limits as Limits
 use Rattle.row_order.specs.RowOrder.{check2, check7, upward}
-use Rattle.rules.specs.declared.Checked.{Checked}
 use Rattle.rules.specs.declared.Touching.{Touching}
-use Rattle.rules.specs.Check.{check3, check4, check6, none, broken, unless, unlessTouching, touchingOne, touchingFrom, fromRule5, checkOf}
+use Rattle.rules.specs.Check.{check3, check4, check6, broken, unless, unlessTouching, touchingOne, touchingFrom, fromRule5, checkOf}
 use Rattle.four.specs.Plans.{Plan}
 use Rattle.four.specs.Plans as Plans
 use Rattle.four.specs.Check as Four
 use Rattle.four.specs.Request1.{four, behind, fourDrawing}
-use Rattle.four.proofs.Sheets.{fours, same-touch, same-padsOf}
+use Rattle.four.proofs.Sheets.{same-touch, same-padsOf}
 use Rattle.four.proofs.Drawings.{lists-same}
 
 -- ---- rule 1

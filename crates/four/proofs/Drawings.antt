@@ -12,7 +12,7 @@ use Rattle.sheet.specs.declared.Component.{Component}
 use Rattle.sheet.specs.declared.Drawing.{Drawing}
 use Rattle.sheet.specs.Drawings.{Sheet, zeroComponent, wireTable, jointTable, listsOf, drawn}
 use Rattle.edits.specs.Making.{roomy}
-use Rattle.four.specs.Plans.{Part, zeroPart}
+use Rattle.four.specs.Plans.{zeroPart}
 use Rattle.four.specs.Plans as Four
 use Rattle.four.specs.Calls as FourCalls
 use Rattle.four.specs.Request1.{four, behind, fourDrawing}

@@ -1,4 +1,5 @@
 mod Sheets
+mod Lists
 mod Drawings
 mod Edits
 mod Check

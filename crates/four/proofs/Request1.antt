@@ -1,7 +1,5 @@
 -- P1's samenesses, from those of symbols, edits, lists and the check.
-use Prim.Native.Nat.{ℕ}
-use mathlib.Core.Bool.{Bool, cond}
-use mathlib.Core.List.{List}
+use mathlib.Core.Bool.{cond}
 use mathlib.Core.Path.{_≡_, ap, _∙_}
 use lib.Dec.{eqb}
 use Rattle.sheet.specs.declared.Drawing.{Drawing}
@@ -13,13 +11,13 @@ use Rattle.redraw.specs.declared.Edited.{Edited}
 use Rattle.schematic.specs.Calls.{checked}
 use Rattle.netlist.specs.Listing.{listOf, looseOf}
 use Rattle.netlist.specs.Answers.{toldLength, answerOf, bufferOf, looseCount, netlistOf, netlistIn, looseAnswer}
-use Rattle.four.specs.Plans.{Plan}
 use Rattle.four.specs.Plans as Plans
 use Rattle.four.specs.Listing as FourListing
 use Rattle.four.specs.Check as FourCheck
 use Rattle.four.specs.Calls as Four
 use Rattle.four.specs.Request1.{fourDrawing, fourEdited, SameCalls, SameLists, Request1}
-use Rattle.four.proofs.Sheets.{same-joints, same-tally, same-list, same-loose}
+use Rattle.four.proofs.Sheets.{same-joints, same-tally}
+use Rattle.four.proofs.Lists.{same-list, same-loose}
 use Rattle.four.proofs.Drawings.{lists-same}
 use Rattle.four.proofs.Edits.{unless, same-edits}
 use Rattle.four.proofs.Check.{same-check}
@@ -61,8 +59,8 @@ same-calls = record {
   mirror = λ d x y s t. checked-same d t _ (same-edits .mirror d x y s t);
 }
 
-pub request1 : Request1
-request1 = record {
+pub request-1 : Request1
+request-1 = record {
   symbols = same-symbols;
   edits = same-edits;
   calls = same-calls;

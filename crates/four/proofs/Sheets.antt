@@ -1,10 +1,9 @@
--- Under the translation each edit of a sheet, and the list, are those of the plan: by the laws of lists whose rows are translated, and
--- because a turn of the number is the turn of its four numbers.
+-- Under the translation each edit of a sheet is that of the plan: by the laws of lists whose rows are translated, and because a turn of the
+-- number is the turn of its four numbers.
 use Prim.Native.Nat.{ℕ}
 use mathlib.Core.Bool.{Bool, true, false, cond, not}
 use mathlib.Core.List.{List, [], _∷_, map}
 use mathlib.Core.Path.{_≡_, refl, sym, ap, _∙_}
-use lib.Dec.{eqb}
 use lib.ListN.{length, length-map}
 use Rattle.lists.specs.Lists.{any, keep}
 use Rattle.lists.proofs.Mapped.{any-mapped, keep-mapped, insert-mapped, gather-mapped, map-mapped}
@@ -23,15 +22,9 @@ use Rattle.sheet.specs.Drawings.{Sheet}
 use Rattle.sheet.specs.Parts as Number
 use Rattle.sheet.specs.Drawings
 use Rattle.sheet.specs.Edits
-use Rattle.nets.specs.Numbers.{byNumber, numbersOf}
-use Rattle.net_numbers.specs.Netted.{numberOfJoint, isPower, endsOf}
-use Rattle.net_numbers.specs.Netted
-use Rattle.netlist.specs.Listing.{listWith, nth, looseIn}
-use Rattle.netlist.specs.Listing
 use Rattle.four.specs.Plans.{Part, Plan}
 use Rattle.four.specs.Plans as Four
 use Rattle.four.specs.Edits as FourEdits
-use Rattle.four.specs.Listing as FourListing
 use Rattle.four.specs.Request1.{four}
 
 abbrev pub fours : Sheet → Plan
@@ -136,20 +129,3 @@ same-turn p n s = same-turned rightOf rights eighth-right p n s
 pub same-mirror : (p : Point) (n : ℕ) (s : Sheet) → FourEdits.mirror p n (fours s) ≡ fourOutcome (Edits.mirror p n s)
 unfolding FourEdits.mirror Edits.mirror
 same-mirror p n s = same-turned mirrorOf mirrors eighth-mirror p n s
-
--- ---- the list
-
-same-powers : (cs : List Component) → Four.padsOf (keep (λ c. eqb (c .kind) 0) (map four cs)) ≡ Number.padsOf (keep isPower cs)
-same-powers cs = ap Four.padsOf (keep-mapped four (λ c. eqb (c .kind) 0) isPower (λ c. refl) cs) ∙ same-padsOf (keep isPower cs)
-
-same-numbers : (s : Sheet) → FourListing.netNumbers (fours s) ≡ Netted.netNumbers s
-unfolding FourListing.netNumbers Netted.netNumbers
-same-numbers s = λ i. numbersOf (byNumber (numberOfJoint (same-joints s i)) (record { links = map endsOf (s .wires); powers = same-powers (s .parts) i })) (map (numberOfJoint (same-joints s i)) (same-padsOf (s .parts) i))
-
-pub same-list : (s : Sheet) → FourListing.listOf (fours s) ≡ Listing.listOf s
-unfolding FourListing.listOf Listing.listOf
-same-list s = λ i. listWith (nth (same-numbers s i)) (map-mapped four FourListing.entry Listing.entry (λ c. refl) (s .parts) i)
-
-pub same-loose : (s : Sheet) → FourListing.looseOf (fours s) ≡ Listing.looseOf s
-unfolding FourListing.looseOf Listing.looseOf
-same-loose s = ap looseIn (same-joints s)

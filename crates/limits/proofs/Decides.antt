@@ -1,12 +1,9 @@
 -- The test of rule 1 decides it.
 use Prim.Native.Nat.{ℕ, _≤_}
-use mathlib.Core.Bool.{Bool, true, false, _&&_, not}
-use mathlib.Core.List.{List}
 use mathlib.Core.Path.{_≡_, refl, sym, ap, _∙_, subst}
-use lib.Dec.{T}
 use lib.ListN.{length, drop, replicate}
 use Rattle.lists.specs.Lists.{_∈_}
-use Rattle.lists.proofs.Tests.{both-T, Reads, reads, test, false-reads, reads-as, and-reads, eqb-reads, leb-reads, ltb-reads}
+use Rattle.lists.proofs.Tests.{Reads, test, false-reads, reads-as, and-reads, eqb-reads, leb-reads, ltb-reads}
 use Rattle.lists.proofs.Tables.{all-zero, zeros-only}
 use Rattle.lists.proofs.Lists.{all-reads}
 use Rattle.lists.proofs.Finding.{in-drop}

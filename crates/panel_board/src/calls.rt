@@ -1,4 +1,4 @@
-// What no script can ask for: drawings that are not lawful, four numbers that are no orientation, labels as callers give them, buffers
+// What no script can ask for: drawings that are not lawful, numbers that are no orientation's, labels as callers give them, buffers
 // of any length. Of each call the name, `A <reply> <hit> <lost>` and the tally, which was lent as 9 9 9 9.
 use crate::drawings::component;
 use crate::drawings::components;

@@ -8,7 +8,6 @@ use Rattle.label.specs.Labels.{padded}
 use Rattle.sheet.specs.declared.Wire.{Wire}
 use Rattle.sheet.specs.declared.Component.{Component}
 use Rattle.sheet.specs.declared.Joint.{Joint}
-use Rattle.sheet.specs.declared.Drawing.{Drawing}
 use Rattle.sheet.specs.Drawings.{zeroWire, zeroComponent, zeroJoint}
 use Rattle.check_script.specs.declared.Said.{Said}
 use Rattle.check_script.specs.declared.Said.the-variants as said

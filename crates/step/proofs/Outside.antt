@@ -1,10 +1,8 @@
 -- KIND outside 0 to 2 or ORIENT outside 0 to 7 gets 4, whatever else the line says: `outside-four`.
-use mathlib.Core.Path.{_≡_, refl, ap, _∙_}
-use mathlib.Core.Bool.{Bool, true, false, _&&_, cond}
+use mathlib.Core.Path.{_≡_, refl}
+use mathlib.Core.Bool.{Bool, true, false, _&&_}
 use mathlib.Core.Logic.{_⊎_, inl, inr}
-use mathlib.Core.List.{List}
-use Prim.Native.Nat.{ℕ, _<_, _≤_}
-use native.Mathlib.Omega.{arith}
+use Prim.Native.Nat.{ℕ, _<_}
 use lib.Dec.{leb, ltb}
 use lib.IntN.{ℤ, pos, negsuc}
 use borrow.Author.Tests.{lt-leb, le-ltb}
@@ -12,7 +10,7 @@ use Rattle.lists.proofs.Tests.{choose, ltb-reads}
 use Rattle.label.specs.declared.Label.{Label}
 use Rattle.sheet.specs.declared.Drawing.{Drawing}
 use Rattle.sheet.specs.declared.Tally.{Tally}
-use Rattle.redraw.specs.Calls.{refused, refusedUnless, addComponent}
+use Rattle.redraw.specs.Calls.{refused, addComponent}
 use Rattle.step.specs.Steps.{choiceOf}
 
 -- a number outside 0 to m

@@ -11,7 +11,7 @@ is-known-requires : tie.Need-is-known-requires
 is-known-requires c κs = search needs
 
 returns : tie.Need-returns
-returns c = let s = c .before .before .args in unknown (s .kind) (s .n) (s .x) (s .y) (s .label) (s .i) (s .a) (s .b) (c .before .is-known .ensures) (not-true _ (c .if1 .taken))
+returns c = let s = c .before .before .args in unknown (s .kind) (s .orientation) (s .x) (s .y) (s .label) (s .i) (s .a) (s .b) (c .before .is-known .ensures) (not-true _ (c .if1 .taken))
 
 is-position-requires : tie.Need-is-position-requires
 is-position-requires c κs = search needs
@@ -24,7 +24,7 @@ returns-2 c =
     let s = c .before .before .before .before .before in
     let X = tested 5800 (s .fits .x) (c .before .before .is-position .ensures) in
     let Y = tested 5800 (s .fits .y) (c .before .is-position2 .ensures) in
-    off-sheet (s .args .kind) (s .args .n) (s .args .label) (s .args .i) (s .args .a) (s .args .b) (c .before .before .before .before .is-known .ensures) (not-false _ (c .before .before .before .if1 .left)) X Y (not-true _ (c .if2 .taken))
+    off-sheet (s .args .kind) (s .args .orientation) (s .args .label) (s .args .i) (s .args .a) (s .args .b) (c .before .before .before .before .is-known .ensures) (not-false _ (c .before .before .before .if1 .left)) X Y (not-true _ (c .if2 .taken))
 
 held-label-requires : tie.Need-held-label-requires
 held-label-requires c κs = search needs
@@ -34,7 +34,7 @@ returns-3 c =
     let s = c .before .before .before .before .before .before .before .before in
     let X = tested 5800 (s .fits .x) (c .before .before .before .before .before .is-position .ensures) in
     let Y = tested 5800 (s .fits .y) (c .before .before .before .before .is-position2 .ensures) in
-    mislabelled (s .args .kind) (s .args .n) (s .args .label) (s .args .i) (s .args .a) (s .args .b) (c .before .before .before .before .before .before .before .is-known .ensures) (not-false _ (c .before .before .before .before .before .before .if1 .left)) X Y (not-false _ (c .before .before .before .if2 .left)) (c .before .before .held-label .ensures) (c .if3 .taken)
+    mislabelled (s .args .kind) (s .args .orientation) (s .args .label) (s .args .i) (s .args .a) (s .args .b) (c .before .before .before .before .before .before .before .is-known .ensures) (not-false _ (c .before .before .before .before .before .before .if1 .left)) X Y (not-false _ (c .before .before .before .if2 .left)) (c .before .before .held-label .ensures) (c .if3 .taken)
 
 shape-requires : tie.Need-shape-requires
 shape-requires c κs = search needs
@@ -60,14 +60,14 @@ returns-4 c =
     let s = c .before .before .before .before .before .before .before .before .before .before .before .before .before .before in
     let X = tested 5800 (s .fits .x) (c .before .before .before .before .before .before .before .before .before .before .before .is-position .ensures) in
     let Y = tested 5800 (s .fits .y) (c .before .before .before .before .before .before .before .before .before .before .is-position2 .ensures) in
-    shown (s .args .kind) (s .args .n) (s .args .label) (s .args .i) (s .args .a) (s .args .b) (c .before .before .before .before .before .before .before .before .before .before .before .before .before .is-known .ensures) (not-false _ (c .before .before .before .before .before .before .before .before .before .before .before .before .if1 .left)) X Y (not-false _ (c .before .before .before .before .before .before .before .before .before .if2 .left)) (c .before .before .before .before .before .before .before .before .held-label .ensures) (c .before .before .before .before .before .before .if3 .left) (c .before .before .before .before .before .shape .result) (c .before .before .before .before .before .shape .ensures) (c .before .before .before .d .given .1) (converted X Y (c .before .convert .ensures)) (c .turned .ensures)
+    shown (s .args .kind) (s .args .orientation) (s .args .label) (s .args .i) (s .args .a) (s .args .b) (c .before .before .before .before .before .before .before .before .before .before .before .before .before .is-known .ensures) (not-false _ (c .before .before .before .before .before .before .before .before .before .before .before .before .if1 .left)) X Y (not-false _ (c .before .before .before .before .before .before .before .before .before .if2 .left)) (c .before .before .before .before .before .before .before .before .held-label .ensures) (c .before .before .before .before .before .before .if3 .left) (c .before .before .before .before .before .shape .result) (c .before .before .before .before .before .shape .ensures) (c .before .before .before .d .given .1) (converted X Y (c .before .convert .ensures)) (c .turned .ensures)
 
 returns-5 : tie.Need-returns-5
 returns-5 c =
     let s = c .before .before .before .before .before .before .before .before .before .before .before in
     let X = tested 5800 (s .fits .x) (c .before .before .before .before .before .before .before .before .is-position .ensures) in
     let Y = tested 5800 (s .fits .y) (c .before .before .before .before .before .before .before .is-position2 .ensures) in
-    past (s .args .kind) (s .args .n) (s .args .label) (s .args .i) (s .args .a) (s .args .b) (c .before .before .before .before .before .before .before .before .before .before .is-known .ensures) (not-false _ (c .before .before .before .before .before .before .before .before .before .if1 .left)) X Y (not-false _ (c .before .before .before .before .before .before .if2 .left)) (c .before .before .before .before .before .held-label .ensures) (c .before .before .before .if3 .left) (c .before .before .shape .result) (c .before .before .shape .ensures) (c .enum-told .given .1)
+    past (s .args .kind) (s .args .orientation) (s .args .label) (s .args .i) (s .args .a) (s .args .b) (c .before .before .before .before .before .before .before .before .before .before .is-known .ensures) (not-false _ (c .before .before .before .before .before .before .before .before .before .if1 .left)) X Y (not-false _ (c .before .before .before .before .before .before .if2 .left)) (c .before .before .before .before .before .held-label .ensures) (c .before .before .before .if3 .left) (c .before .before .shape .result) (c .before .before .shape .ensures) (c .enum-told .given .1)
 
 pub component-spec : {M : Type 1} → statement M
 component-spec =

@@ -25,7 +25,7 @@ returns c =
     let b = r .before in
     let a = b .before in
     let s = a .before in
-    box-answered (s .args .kind) (s .args .n) (s .args .x) (s .args .y) (s .fits .x) (s .fits .y) (a .held .result) (b .held2 .result) (a .held .ensures) (b .held2 .ensures)
+    box-answered (s .args .kind) (s .args .orientation) (s .args .x) (s .args .y) (s .fits .x) (s .fits .y) (a .held .result) (b .held2 .result) (a .held .ensures) (b .held2 .ensures)
     (r .aabb .result) (c .before .shown .result) (c .shown2 .result) (r .aabb .ensures) (c .before .shown .ensures) (c .shown2 .ensures)
 
 pub component-box-spec : {M : Type 1} → statement M

@@ -37,7 +37,7 @@ returns c =
     let b = r .before in
     let a = b .before in
     let s = a .before in
-    pads-answered (s .args .kind) (s .args .n) (s .args .x) (s .args .y) (s .fits .x) (s .fits .y) (a .held .result) (b .held2 .result) (a .held .ensures) (b .held2 .ensures)
+    pads-answered (s .args .kind) (s .args .orientation) (s .args .x) (s .args .y) (s .fits .x) (s .fits .y) (a .held .result) (b .held2 .result) (a .held .ensures) (b .held2 .ensures)
     (r .pads .result) (c .before .before .before .before .shown .result) (c .before .before .shown2 .result) (c .shown3 .result)
     (r .pads .ensures) (c .before .before .before .before .shown .ensures) (c .before .before .shown2 .ensures) (c .shown3 .ensures)
 

@@ -1,8 +1,7 @@
 -- `dump::put_component` meets its contract: a letter, two numbers, two coordinates and the label.
-use mathlib.Core.Path.{ap}
 use native.Mathlib.Omega.{arith}
-use Rattle.dump.proofs.Runs.{puts-byte, puts-then, puts-as}
-use Rattle.dump.specs.Rows.{countWord, componentLine}
+use Rattle.dump.proofs.Runs.{puts-byte, puts-then}
+use Rattle.dump.specs.Rows.{componentLine}
 use borrow.Author.Needs.{needs}
 use Rattle.dump.proofs.lines.put_component.Statement.{statement}
 use Rattle.dump.proofs.lines.put_component.Tie as tie
