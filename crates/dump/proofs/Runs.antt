@@ -16,6 +16,3 @@ puts-short h p = record { put = p; short = h }
 
 pub puts-then : {a b c xs ys : List ℕ} {m n i j k : ℕ} → Puts m a i xs b j → Puts n b j ys c k → Puts (m + n) a i (xs ++ ys) c k
 puts-then {a} {b} {c} {xs} {ys} p q = record { put = put-then (p .put) (q .put); short = omega (arith, p .short, q .short, length-append xs ys) }
-
-pub puts-as : {a b xs ys : List ℕ} {m i j : ℕ} → xs ≡ ys → Puts m a i xs b j → Puts m a i ys b j
-puts-as {a} {b} {xs} {ys} {m} {i} {j} e p = rw e at p
