@@ -64,7 +64,7 @@ line-right s =
 row-front : {n : ℕ} {back : Bool} {s : List ℕ} {k : Said} → IsRow n back s k → lineSaid s ≡ rowOf (length s) false s
 unfolding lineSaid
 row-front (g.wire dir gl ga ge e) = rw e
-row-front (g.component gk le go gx gy l few e at) = rw e
+row-front (g.component gk go gx gy l few e at) = rw e
 row-front (g.joint gx gy gc e) = rw e
 
 behind-front : (s t : List ℕ) → s ≡ bytes "Z" ␣ t → lineSaid s ≡ rowOf (length s) true t

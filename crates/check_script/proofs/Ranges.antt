@@ -8,7 +8,7 @@ use borrow.Author.Tests.{ltb-true, ltb-false, leb-true, le-leb, lt-leb, lt-ltb, 
 use lib.Dec.{T}
 use lib.IntN.{ℤ, pos, negsuc, negℤ, natAbs, subℕ, _+ℤ_}
 use lib.Signed.{ltZ, nonNeg, mag}
-use mir.Syntax.{w8, w16, w32}
+use mir.Syntax.{Width, w8, w16, w32}
 use mir.Val.{SFits, Fits, toZ, ofZ}
 use mir.Facts.{toZ-pos}
 use Rattle.edge.specs.Coordinates.{toℕ, biased}
@@ -87,36 +87,25 @@ module _ (z : ℤ) (m : mag z < 2 ^ 31) (l : ltZ (toZ w32 (ofZ w32 z)) (negℤ (
   pub sum-is : natAbs (toZ w32 (ofZ w32 (toZ w32 (ofZ w32 z) +ℤ pos 6000))) ≡ biased z
   sum-is = ap natAbs read
 
--- ---- a number that is not negative
+-- ---- a number from 0 to high, which fits w bits
 
-whole : (z : ℤ) → fitted 0 65535 z ≡ true → T (nonNeg z) × (natAbs z ≡ toℕ z) × (natAbs z ≤ 65535)
+whole : (high : ℕ) (z : ℤ) → fitted 0 high z ≡ true → T (nonNeg z) × (natAbs z ≡ toℕ z) × (natAbs z ≤ high)
 unfolding fitted
-whole (pos n) r = (tt, refl, leb-true n 65535 r)
-whole (negsuc n) r = absurd (let h = ltb-true n 0 r in let y : ⊥ = omega arith in y)
+whole high (pos n) r = (tt, refl, leb-true n high r)
+whole high (negsuc n) r = absurd (let h = ltb-true n 0 r in let y : ⊥ = omega arith in y)
 
-module _ (z : ℤ) (m : mag z < 2 ^ 31) (l : ltZ (toZ w32 (ofZ w32 z)) (pos 0) ≡ false) (h : ltZ (pos 65535) (toZ w32 (ofZ w32 z)) ≡ false) where
-  inside : T (nonNeg z) × (natAbs z ≡ toℕ z) × (natAbs z ≤ 65535)
-  inside = whole z (between 0 65535 z (rw (back z m) at l) (rw (back z m) at h))
+module _ (high : ℕ) (w : Width) (wide : (n : ℕ) → n ≤ high → Fits w n) (z : ℤ) (m : mag z < 2 ^ 31) (l : ltZ (toZ w32 (ofZ w32 z)) (pos 0) ≡ false) (h : ltZ (pos high) (toZ w32 (ofZ w32 z)) ≡ false) where
+  within : T (nonNeg z) × (natAbs z ≡ toℕ z) × (natAbs z ≤ high)
+  within = whole high z (between 0 high z (rw (back z m) at l) (rw (back z m) at h))
 
-  pub whole-cast : T (nonNeg (toZ w32 (ofZ w32 z))) × Fits w16 (natAbs (toZ w32 (ofZ w32 z)))
-  whole-cast = let k = inside .2 in rw (back z m) (inside .0, record { fits = omega arith })
+  pub whole-cast : T (nonNeg (toZ w32 (ofZ w32 z))) × Fits w (natAbs (toZ w32 (ofZ w32 z)))
+  whole-cast = rw (back z m) (within .0, wide (natAbs z) (within .2))
 
   pub whole-is : natAbs (toZ w32 (ofZ w32 z)) ≡ toℕ z
-  whole-is = rw (back z m) (inside .1)
+  whole-is = rw (back z m) (within .1)
 
--- ---- the same of 8 bits
+pub in-16 : (n : ℕ) → n ≤ 65535 → Fits w16 n
+in-16 n h = record { fits = omega arith }
 
-byte-sized : (z : ℤ) → fitted 0 255 z ≡ true → T (nonNeg z) × (natAbs z ≡ toℕ z) × (natAbs z ≤ 255)
-unfolding fitted
-byte-sized (pos n) r = (tt, refl, leb-true n 255 r)
-byte-sized (negsuc n) r = absurd (let h = ltb-true n 0 r in let y : ⊥ = omega arith in y)
-
-module _ (z : ℤ) (m : mag z < 2 ^ 31) (l : ltZ (toZ w32 (ofZ w32 z)) (pos 0) ≡ false) (h : ltZ (pos 255) (toZ w32 (ofZ w32 z)) ≡ false) where
-  in-byte : T (nonNeg z) × (natAbs z ≡ toℕ z) × (natAbs z ≤ 255)
-  in-byte = byte-sized z (between 0 255 z (rw (back z m) at l) (rw (back z m) at h))
-
-  pub byte-cast : T (nonNeg (toZ w32 (ofZ w32 z))) × Fits w8 (natAbs (toZ w32 (ofZ w32 z)))
-  byte-cast = let k = in-byte .2 in rw (back z m) (in-byte .0, record { fits = omega arith })
-
-  pub byte-is : natAbs (toZ w32 (ofZ w32 z)) ≡ toℕ z
-  byte-is = rw (back z m) (in-byte .1)
+pub in-8 : (n : ℕ) → n ≤ 255 → Fits w8 n
+in-8 n h = record { fits = omega arith }

@@ -4,9 +4,8 @@ use mathlib.Core.Bool.{Bool}
 use mathlib.Core.List.{List, _∷_, _++_, append-nil}
 use Prim.Native.Nat.{ℕ, _≤_}
 use native.Mathlib.Omega.{arith}
-use borrow.Author.Tests.{le-leb}
 use lib.ListN.{length, length-append}
-use Rattle.lists.proofs.Tests.{choose, leb-reads, clash}
+use Rattle.lists.proofs.Tests.{clash}
 use Rattle.script.specs.Grammar.{byte, bytes, _␣_}
 use Rattle.script.proofs.Parts.{space, behind-by}
 use Rattle.check_script.specs.declared.Said.{Said}
@@ -36,13 +35,13 @@ module _ (n : ℕ) (back : Bool) (s : List ℕ) (fit : length s ≤ n) (P : Said
   component-by : (t : List ℕ) → s ≡ byte "C" ∷ t → P (componentOf n back t)
   unfolding componentOf standsOf
   component-by t e0 =
-      held-by P bad t (λ K s1 kind gk e1. choose (leb-reads kind 255) P (λ le.
+      held-by P bad t (λ K s1 kind gk e1.
       held-by P bad s1 (λ O s2 o go e2.
       held-by P bad s2 (λ X s3 x gx e3.
       held-by P bad s3 (λ Y s4 y gy e4.
       let all : s ≡ bytes "C" ␣ K ␣ O ␣ X ␣ Y ++ s4 = rw (e0, e1, e2, e3, e4) in
       label-by P bad n s4 (omega (arith, simp length-append at (ap length all)))
-      (λ label at is few here. ok _ (component gk le go gx gy is few all here)))))) (λ m. bad))
+      (λ label at is few here. ok _ (component gk go gx gy is few all here))))))
 
   pub row-by : P (rowOf n back s)
   unfolding rowOf
@@ -52,11 +51,10 @@ pub row-is : {n : ℕ} {back : Bool} {s : List ℕ} {k : Said} → IsRow n back 
 unfolding rowOf wireOf componentOf standsOf jointOf
 row-is (wire {LINE = L} {START = A} {END = E} dir gl ga ge e) =
     rw (e, direction-is (byte " " ∷ (L ␣ A ␣ E)) dir, held-is (space {s = A ␣ E}) gl, held-is (space {s = E}) ga, held-last ge)
-row-is {n} {back} (component {ORIENT = O} {X = X} {Y = Y} {rest = rest} gk le go gx gy l few e at) =
+row-is {n} {back} (component {ORIENT = O} {X = X} {Y = Y} {rest = rest} gk go gx gy l few e at) =
     rw (
       e,
       held-is (space {s = O ␣ X ␣ Y ++ rest}) gk,
-      le-leb _ _ le,
       held-is (space {s = X ␣ Y ++ rest}) go,
       held-is (space {s = Y ++ rest}) gx,
       held-is (label-stops l) gy,
@@ -66,5 +64,5 @@ row-is (joint {X = X} {Y = Y} {COUNT = N} gx gy gc e) = rw (e, held-is (space {s
 -- no row says `Unreadable`
 pub row-readable : {n : ℕ} {back : Bool} {s : List ℕ} {k : Said} → IsRow n back s k → k ≡ Unreadable → ⊥
 row-readable (wire dir gl ga ge e) u = clash refl (cc)
-row-readable (component gk le go gx gy l few e at) u = clash refl (cc)
+row-readable (component gk go gx gy l few e at) u = clash refl (cc)
 row-readable (joint gx gy gc e) u = clash refl (cc)

@@ -42,7 +42,7 @@ pub data IsRow (n : ℕ) (back : Bool) (s : List ℕ) : Said → Type 0 where
       → IsDirection d v → IsCoordinate LINE l → IsCoordinate START a → IsCoordinate END e → s ≡ bytes "W" ␣ (byte d ∷ []) ␣ LINE ␣ START ␣ END
       → IsRow n back s (Wire back (record { vertical = v; line = l; start = a; end = e }))
   component : {KIND ORIENT X Y rest label : List ℕ} {kind o x y at : ℕ}
-      → IsNatural KIND kind → kind ≤ 255 → IsByte ORIENT o → IsCoordinate X x → IsCoordinate Y y
+      → IsByte KIND kind → IsByte ORIENT o → IsCoordinate X x → IsCoordinate Y y
       → HasLabel rest label → length label ≤ 16 → s ≡ bytes "C" ␣ KIND ␣ ORIENT ␣ X ␣ Y ++ rest → at + length label ≡ n
       → IsRow n back s (Component back kind o x y at)
   joint : {X Y COUNT : List ℕ} {x y c : ℕ}

@@ -6,8 +6,8 @@ use lib.ListN.{drop}
 use Rattle.script.specs.Reading.{Front, found, missing}
 use Rattle.check_script.specs.declared.fields.Natural.{Natural}
 use Rattle.check_script.specs.declared.fields.Natural.the-variants.{Read, Missing}
-use Rattle.check_script.specs.declared.fields.Turn.{Turn}
-use Rattle.check_script.specs.declared.fields.Turn.the-variants.{Is, IsNot}
+use Rattle.check_script.specs.declared.fields.Byte.{Byte}
+use Rattle.check_script.specs.declared.fields.Byte.the-variants.{Is, IsNot}
 use Rattle.check_script.specs.declared.fields.Direction.{Direction}
 use Rattle.check_script.specs.declared.fields.Direction.the-variants.{Vertical, Neither}
 
@@ -17,9 +17,9 @@ naturalFound line (Read n next) = found n (drop next line)
 naturalFound line Missing = missing
 
 -- a number of 8 bits
-abbrev pub turnFound : List ℕ → Turn → Front ℕ
-turnFound line (Is o next) = found o (drop next line)
-turnFound line IsNot = missing
+abbrev pub byteFound : List ℕ → Byte → Front ℕ
+byteFound line (Is n next) = found n (drop next line)
+byteFound line IsNot = missing
 
 -- whether the wire is vertical
 abbrev pub directionFound : List ℕ → Direction → Front Bool

@@ -30,9 +30,9 @@ coordinateOf s = fittedField 6000 59535 biased s
 abbrev pub naturalOf : List ℕ → Front ℕ
 naturalOf s = fittedField 0 65535 toℕ s
 
--- a number of 8 bits: an orientation by its number, or none
-abbrev pub turnOf : List ℕ → Front ℕ
-turnOf s = fittedField 0 255 toℕ s
+-- a number of 8 bits
+abbrev pub byteOf : List ℕ → Front ℕ
+byteOf s = fittedField 0 255 toℕ s
 
 -- ---- rows
 
@@ -71,7 +71,7 @@ standsOf n f s = then (coordinateOf s) (λ x s. then (coordinateOf s) (λ y. lab
 -- a component's row, behind its letter
 unfoldable pub componentOf : ℕ → Bool → List ℕ → Said
 componentOf n back s =
-    then (naturalOf s) (λ kind s. cond (leb kind 255) (then (turnOf s) (λ o. standsOf n (Component back kind o)) Unreadable) Unreadable) Unreadable
+    then (byteOf s) (λ kind s. then (byteOf s) (λ o. standsOf n (Component back kind o)) Unreadable) Unreadable
 
 -- a row's line of n bytes, by its letter
 unfoldable pub rowOf : ℕ → Bool → List ℕ → Said

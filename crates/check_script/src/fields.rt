@@ -1,8 +1,8 @@
 // Numbers of a line that a row can hold, each read from an index of the line on.
 ghost use mathlib.Core.Path.{_≡_};
 ghost use lib.ListN.{drop};
-ghost use Rattle.check_script.specs.Reading.{coordinateOf, naturalOf, turnOf, verticalOf, directionOf};
-ghost use Rattle.check_script.specs.Indexes.{naturalFound, turnFound, directionFound};
+ghost use Rattle.check_script.specs.Reading.{coordinateOf, naturalOf, byteOf, verticalOf, directionOf};
+ghost use Rattle.check_script.specs.Indexes.{naturalFound, byteFound, directionFound};
 use script::numbers;
 use script::numbers::Numeral;
 
@@ -13,7 +13,7 @@ pub enum Natural {
 }
 
 // A number of 8 bits, and the index behind it.
-pub enum Turn {
+pub enum Byte {
     Is(u8, usize),
     IsNot,
 }
@@ -57,19 +57,19 @@ pub fn natural_at(line: &[u8], at: usize) -> Natural
 }
 
 // A space and a number of 8 bits.
-pub fn turn_at(line: &[u8], at: usize) -> Turn
-    ensures { λ r. ⌜ turnFound (now (line .entry)) r ≡ turnOf (drop at (now (line .entry))) ⌝ }
+pub fn byte_at(line: &[u8], at: usize) -> Byte
+    ensures { λ r. ⌜ byteFound (now (line .entry)) r ≡ byteOf (drop at (now (line .entry))) ⌝ }
 {
     let Numeral::Read(z, next) = numbers::field_at(line, at) else {
-        return Turn::IsNot;
+        return Byte::IsNot;
     };
     if z < 0 {
-        return Turn::IsNot;
+        return Byte::IsNot;
     }
     if 255 < z {
-        return Turn::IsNot;
+        return Byte::IsNot;
     }
-    Turn::Is(z as u8, next)
+    Byte::Is(z as u8, next)
 }
 
 // `h` or `v`.

@@ -6,9 +6,9 @@ ghost use mathlib.Core.Path.{_≡_};
 ghost use lib.ListN.{length, drop};
 ghost use Rattle.check_script.specs.declared.Said.the-variants.{Component};
 ghost use Rattle.check_script.specs.Reading.{wireOf, jointOf, labelledRow, standsOf, componentOf, rowOf, countedOf, countOf, saidOf};
+use fields::Byte;
 use fields::Direction;
 use fields::Natural;
-use fields::Turn;
 use script::numbers;
 use script::numbers::Numeral;
 use sheet::Joint;
@@ -23,7 +23,7 @@ pub enum Said {
     Component {
         behind: bool,
         kind: u8,
-        turn: u8,
+        orientation: u8,
         x: u16,
         y: u16,
         label: usize,
@@ -88,15 +88,23 @@ fn joint_row(line: &[u8], at: usize, behind: bool) -> Said
 }
 
 // A component's row whose numbers end at `at`: its label starts there or behind a space.
-fn labelled_row(line: &[u8], at: usize, behind: bool, kind: u8, turn: u8, x: u16, y: u16) -> Said
-    ensures { λ r. ⌜ r ≡ labelledRow (length (now (line .entry))) (Component behind kind turn x y) (drop at (now (line .entry))) ⌝ }
+fn labelled_row(
+    line: &[u8],
+    at: usize,
+    behind: bool,
+    kind: u8,
+    orientation: u8,
+    x: u16,
+    y: u16,
+) -> Said
+    ensures { λ r. ⌜ r ≡ labelledRow (length (now (line .entry))) (Component behind kind orientation x y) (drop at (now (line .entry))) ⌝ }
 {
     let len = line.len();
     if len <= at {
         return Said::Component {
             behind,
             kind,
-            turn,
+            orientation,
             x,
             y,
             label: len,
@@ -110,7 +118,7 @@ fn labelled_row(line: &[u8], at: usize, behind: bool, kind: u8, turn: u8, x: u16
             return Said::Component {
                 behind,
                 kind,
-                turn,
+                orientation,
                 x,
                 y,
                 label: at + 1,
@@ -121,8 +129,8 @@ fn labelled_row(line: &[u8], at: usize, behind: bool, kind: u8, turn: u8, x: u16
 }
 
 // A component's position and label.
-fn standing_row(line: &[u8], at: usize, behind: bool, kind: u8, turn: u8) -> Said
-    ensures { λ r. ⌜ r ≡ standsOf (length (now (line .entry))) (Component behind kind turn) (drop at (now (line .entry))) ⌝ }
+fn standing_row(line: &[u8], at: usize, behind: bool, kind: u8, orientation: u8) -> Said
+    ensures { λ r. ⌜ r ≡ standsOf (length (now (line .entry))) (Component behind kind orientation) (drop at (now (line .entry))) ⌝ }
 {
     let Natural::Read(x, k) = fields::coordinate_at(line, at) else {
         return Said::Unreadable;
@@ -130,23 +138,20 @@ fn standing_row(line: &[u8], at: usize, behind: bool, kind: u8, turn: u8) -> Sai
     let Natural::Read(y, next) = fields::coordinate_at(line, k) else {
         return Said::Unreadable;
     };
-    labelled_row(line, next, behind, kind, turn, x, y)
+    labelled_row(line, next, behind, kind, orientation, x, y)
 }
 
 // A component's row, behind its letter.
 fn component_row(line: &[u8], at: usize, behind: bool) -> Said
     ensures { λ r. ⌜ r ≡ componentOf (length (now (line .entry))) behind (drop at (now (line .entry))) ⌝ }
 {
-    let Natural::Read(kind, k) = fields::natural_at(line, at) else {
+    let Byte::Is(kind, k) = fields::byte_at(line, at) else {
         return Said::Unreadable;
     };
-    if 255 < kind {
-        return Said::Unreadable;
-    }
-    let Turn::Is(turn, next) = fields::turn_at(line, k) else {
+    let Byte::Is(orientation, next) = fields::byte_at(line, k) else {
         return Said::Unreadable;
     };
-    standing_row(line, next, behind, kind as u8, turn)
+    standing_row(line, next, behind, kind, orientation)
 }
 
 // A row, by its letter.

@@ -1,5 +1,4 @@
 -- Runs of bytes, one behind the other, each with the number that it has at most.
-use mathlib.Core.Path.{_≡_}
 use mathlib.Core.List.{List, [], _∷_, _++_}
 use Prim.Native.Nat.{ℕ, _+_, _≤_}
 use native.Mathlib.Omega.{arith}

@@ -4,7 +4,8 @@
 --
 -- What a name with `Four.` in front says is document 01 as it stands, with four signed numbers to a component: the files beside this one.
 -- A name without it says what our calls promise, of the number. The translation is `four`, and what follows from it for a drawing and an
--- answer. Then come the samenesses, one for each call: for every drawing, lawful or not, and every number, 0 to 7 or not.
+-- answer. Then come the samenesses, one for each call: for every drawing, lawful or not, and every number, 0 to 7 or not. And last, that no
+-- lawful drawing is lost or added by it.
 use Prim.Native.Nat.{ℕ}
 use mathlib.Core.Bool.{Bool, cond}
 use mathlib.Core.List.{List, map, _++_}
@@ -100,7 +101,8 @@ pub record SameEdits : Type 0 where
   pub turn : SamePointer Four.rotateAt rotateAt
   pub mirror : SamePointer Four.mirrorAt mirrorAt
 
--- the edits as a caller meets them, with 9 for a drawing that is not lawful
+-- the edits as a caller meets them, with 9 for a drawing that is not lawful. A lent tally ends by the reply and the tally alone (`noted` in
+-- `lent`), so this is said of the calls of `lent` too
 pub record SameCalls : Type 0 where
   pub wire : SameWire (λ d v l s e t. Four.checked d t (Four.addWire d v l s e t)) (λ d v l s e t. checked d t (addWire d v l s e t))
   pub place : SamePlace (λ d k o x y b t. Four.checked d t (Four.addComponent d k o x y b t)) (λ d k n x y b t. checked d t (addComponent d k n x y b t))

@@ -39,7 +39,7 @@ pub fn is_end(said: Said) -> bool
         Said::Component {
             behind: _,
             kind: _,
-            turn: _,
+            orientation: _,
             x: _,
             y: _,
             label: _,

@@ -219,7 +219,7 @@ pub fn add(s: Sketch, line: &[u8], said: Said) -> Added
         Said::Component {
             behind,
             kind,
-            turn,
+            orientation,
             x,
             y,
             label,
@@ -227,7 +227,7 @@ pub fn add(s: Sketch, line: &[u8], said: Said) -> Added
             let bytes = label_from(line, label);
             let c = Component {
                 kind,
-                orientation: turn,
+                orientation,
                 x,
                 y,
                 label: bytes,

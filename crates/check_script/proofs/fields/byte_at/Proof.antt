@@ -1,11 +1,12 @@
--- `turn_at` meets its contract: a number within the limits, which fits.
+-- `byte_at` meets its contract: a number within the limits, which fits.
+use mir.Syntax.{w8}
 use Rattle.edge.specs.Coordinates.{toℕ}
 use Rattle.script.specs.Indexes.{numberFound}
 use Rattle.script.proofs.Fronts.{told}
-use Rattle.check_script.proofs.Ranges.{held-none, held-low, held-high, held-in, byte-cast, byte-is}
+use Rattle.check_script.proofs.Ranges.{held-none, held-low, held-high, held-in, whole-cast, whole-is, in-8}
 use borrow.Author.Needs.{needs}
-use Rattle.check_script.proofs.fields.turn_at.Statement.{statement}
-use Rattle.check_script.proofs.fields.turn_at.Tie as tie
+use Rattle.check_script.proofs.fields.byte_at.Statement.{statement}
+use Rattle.check_script.proofs.fields.byte_at.Tie as tie
 
 field-at-requires : tie.Need-field-at-requires
 field-at-requires c κs = search needs
@@ -26,13 +27,13 @@ returns-3 : tie.Need-returns-3
 returns-3 c = held-high 0 255 toℕ _ (told (numberFound _) (c .before .before .before .before .before .field-at .ensures) (c .before .before .before .z .given .1)) (c .before .before .known-told .given .0 .1) (c .if2 .taken)
 
 cast-t7 : tie.Need-cast-t7
-cast-t7 c = byte-cast (c .before .before .before .z .given .0 .0) (c .before .before .known-told .given .0 .1) (c .before .if1 .left) (c .if2 .left)
+cast-t7 c = whole-cast 255 w8 in-8 (c .before .before .before .z .given .0 .0) (c .before .before .known-told .given .0 .1) (c .before .if1 .left) (c .if2 .left)
 
 returns-4 : tie.Need-returns-4
-returns-4 c = held-in 0 255 toℕ _ (told (numberFound _) (c .before .before .before .before .before .field-at .ensures) (c .before .before .before .z .given .1)) (c .before .before .known-told .given .0 .1) (c .before .if1 .left) (c .if2 .left) (byte-is (c .before .before .before .z .given .0 .0) (c .before .before .known-told .given .0 .1) (c .before .if1 .left) (c .if2 .left))
+returns-4 c = held-in 0 255 toℕ _ (told (numberFound _) (c .before .before .before .before .before .field-at .ensures) (c .before .before .before .z .given .1)) (c .before .before .known-told .given .0 .1) (c .before .if1 .left) (c .if2 .left) (whole-is 255 w8 in-8 (c .before .before .before .z .given .0 .0) (c .before .before .known-told .given .0 .1) (c .before .if1 .left) (c .if2 .left))
 
-pub turn-at-spec : {M : Type 1} → statement M
-turn-at-spec =
+pub byte-at-spec : {M : Type 1} → statement M
+byte-at-spec =
     tie.close
     (tie.spec
     field-at-requires
