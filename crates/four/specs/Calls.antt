@@ -1,5 +1,5 @@
--- The calls under the four numbers: turns, boxes and pads, shapes, the five edits, the list and the loose points, each with its refusals
--- "in document 01's order: 10, 9, 4, 1, 2, 3, 5, 6, 7, 8; the first that applies."
+-- The calls under the four numbers: turns, boxes and pads, shapes, the five edits, the list and the loose points, each with its refusals.
+-- "Order: 10, 9, 4, 1, 2, 3, 5, 6, 7, 8; the first that applies."
 use Prim.Native.Nat.{ℕ}
 use mathlib.Core.Bool.{Bool, _&&_, cond, not}
 use mathlib.Core.List.{List, [], map}
@@ -58,7 +58,7 @@ componentShape kind o x y label i a b =
 
 -- ---- the edits
 
--- "A reply besides: the tally, the drawing, how many were hit and how many of these are gone"
+-- the answer to an edit: besides the reply and the tally the drawing, "how many were hit and how many of these are gone afterwards"
 pub record Edited : Type 0 where
   pub reply : ℕ
   pub tally : Tally

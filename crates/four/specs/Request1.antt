@@ -1,4 +1,4 @@
--- Document 02, P1: "Keep the orientation as one number. Hold 0 to 7 in the drawing, numbered as in document 01, with turning and mirroring
+-- Document 02, P1: "Keep the orientation as one number. .. Hold 0 to 7 in the drawing, numbered as in document 01, with turning and mirroring
 -- on that number. Every edit, list and shape must be proved the same as under the four numbers, through one translation. For orientations,
 -- reply 4 is now a number outside 0 to 7."
 --

@@ -29,7 +29,7 @@ padTable =
 abbrev pub storedPads : ℕ → PadBlock
 storedPads k = getD padTable k (record { points = []; count = 0 })
 
--- how far the box of a kind reaches on the side of A and B
+-- how far the box of a kind reaches below its position in orientation 0
 abbrev pub depth : ℕ → ℕ
 depth k = getD (0 ∷ 100 ∷ 150 ∷ []) k 0
 

@@ -57,10 +57,10 @@ const PADS: [PadBlock; 3] = [
     },
 ];
 
-// How far the box of each kind reaches on the side where a contact has A and B: 100 on the side of C and 50 on the other two.
+// How far the box of each kind reaches below its position in orientation 0. It reaches 100 above it and 50 to the left and right.
 const DEPTHS: [u16; 3] = [0, 100, 150];
 
-// Whether the orientation of each number takes a point's x, and its y, back from the position. The odd ones take y to x and x to y.
+// The sign of each orientation's x, and of its y: true for minus. The odd ones exchange x and y besides.
 const BACK_X: [bool; 8] = [false, true, true, false, true, true, false, false];
 
 const BACK_Y: [bool; 8] = [false, false, true, true, false, true, true, false];
