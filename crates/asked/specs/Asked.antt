@@ -44,7 +44,7 @@ componentAt kind o x y label = record { kind = kind; orientation = o; x = biased
 abbrev pub noPart : ℕ → AskedPart
 noPart n = record { reply = n; part = zeroComponent }
 
--- "4: unknown kind, or not one of the eight orientations", "5: label too long or with another byte"
+-- 4: "unknown kind", or as orientation "a number outside 0 to 7" (document 02, P1); 5: "label too long or with another byte"
 unfoldable pub askedPart : ℕ → ℕ → ℤ → ℤ → Label → AskedPart
 askedPart kind o x y label =
     cond (knownSymbol kind o)

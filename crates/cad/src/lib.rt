@@ -21,7 +21,7 @@ pub enum Shape {
     Outside,
     // A wire's start greater than its end.
     Reversed,
-    // An unknown kind, or not one of the eight orientations.
+    // An unknown kind, or an orientation outside 0 to 7.
     Unknown,
     // A label too long or with another byte.
     Mislabelled,

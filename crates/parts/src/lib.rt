@@ -15,7 +15,7 @@ use symbol::Bounds;
 use symbol::bounds_at;
 use symbol::touches;
 
-// The empty table: all its rows are zero, and none has an orientation (zero_row_turned).
+// The empty table: all its rows are zero, their orientations too (zero_row_turned).
 pub fn no_parts() -> Components
     ensures { λ r. ⌜ TabledParts [] r ⌝ }
 {

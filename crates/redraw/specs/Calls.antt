@@ -47,8 +47,8 @@ addWire d vertical line start end t =
     (refusedUnless (leZ start end) 2 d t
     (edited d t (quiet (wire (wireAt vertical line start end) (listsOf d)))))
 
--- "Place.": 4 "unknown kind, or not one of the eight orientations", 1, 5 "label too long or with another byte", 6 "the new component's box
--- shares a point with a placed one", then the edit
+-- "Place.": 4 "unknown kind", or as orientation "a number outside 0 to 7" (document 02, P1), 1, 5 "label too long or with another byte", 6
+-- "the new component's box shares a point with a placed one", then the edit
 unfoldable pub addComponent : Drawing → ℕ → ℕ → ℤ → ℤ → Label → Tally → Edited
 addComponent d kind o x y label t =
     let c = componentAt kind o x y label in

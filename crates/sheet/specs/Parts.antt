@@ -36,7 +36,7 @@ touches b c = touchesOf (box b) (box c)
 abbrev pub ahead : Component → Component → Bool
 ahead b c = rises (position b) (position c)
 
--- "Kind: 0 Power, 1 Contact, 2 Coil." Orientation: the number of one of the eight, 0 to 7. "Component position:
+-- "Kind: 0 Power, 1 Contact, 2 Coil." "Hold 0 to 7 in the drawing, numbered as in document 01" (document 02, P1). "Component position:
 -- −5,800 to 5,800. Label: 0 to 16 bytes, each 0x21 to 0x7E, held in 16 bytes with zeros behind."
 pub record PartFits (c : Component) : Type 0 where
   pub kind : c .kind ≤ 2
