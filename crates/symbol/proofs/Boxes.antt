@@ -1,18 +1,15 @@
 -- The laws of boxes: touching is sharing a point, and goes both ways; a position lies in its own box; a mirror leaves a contact's box.
-use mathlib.Core.Path.{_≡_, sym, subst, _∙_}
+use mathlib.Core.Path.{_≡_, sym, subst}
 use Prim.Native.Nat.{ℕ, zero, suc, _≤_, _<_, min, max}
 use native.Mathlib.Omega.{arith}
-use mathlib.Core.Bool.{Bool, _&&_, cond}
+use mathlib.Core.Bool.{Bool, _&&_}
 use lib.Dec.{T, leb}
-use borrow.Author.Tests.{lt-ltb}
 use lib.IntN.{pos, negsuc}
 use Rattle.lists.specs.Lists.{all}
 use Rattle.lists.proofs.Tests.{Reads, reads-as, and-reads, test, holds, passes, same-test, leb-reads}
 use Rattle.orientation.specs.Orientations.{eighth, turnBy, mirrors}
 use Rattle.orientation.proofs.Eight.{below-8, test-8}
-use Rattle.orientation.proofs.Turns.{mirror-stays}
-use Rattle.edge.specs.Coordinates.{insideOf}
-use Rattle.symbol.specs.Symbols.{Offset, applied, lowAt, highAt, boxOf, boundsAt, touchesOf, boundsFor, refusalOf, aabbOf}
+use Rattle.symbol.specs.Symbols.{Offset, applied, lowAt, highAt, boxOf, boundsAt, touchesOf}
 use Rattle.symbol.specs.Steps.{reachingOf}
 use Rattle.symbol.specs.Boxes.{Shares}
 use Rattle.symbol.specs.declared.Point.{Point}
@@ -133,9 +130,3 @@ mirror-box n x y h =
     let w : ℕ = put y (pos 50) in
     below-8 (Kept x y)
     (swapped m p v w, (swapped l r d u, (swapped p m w v, (swapped r l u d, (swapped m p w v, (swapped r l d u, (swapped p m v w, (swapped l r u d, tt)))))))) n h
-
-pub mirror-aabb : (n : ℕ) (x y : ℕ) → n < 8 → aabbOf 1 (turnBy mirrors n) x y ≡ aabbOf 1 n x y
-unfolding aabbOf refusalOf
-mirror-aabb n x y h =
-    let k = lt-ltb (turnBy mirrors n) 8 (mirror-stays n h) ∙ sym (lt-ltb n 8 h) in
-    λ i. boundsFor (cond (k i) (cond (insideOf x && insideOf y) 0 1) 4) (mirror-box n x y h i)

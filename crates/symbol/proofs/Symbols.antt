@@ -1,11 +1,10 @@
 -- The refusals: what the tests of a kind, an orientation and a position tell, and the answers of `pads` and `aabb`.
 use mathlib.Core.Path.{_≡_, refl, sym, ap, _∙_}
-use Prim.Native.Nat.{ℕ, zero, suc, _≤_}
+use Prim.Native.Nat.{ℕ, zero, suc}
 use native.Mathlib.Omega.{arith}
 use mathlib.Core.Bool.{Bool, true, false, _&&_, cond}
 use mathlib.Core.List.{[]}
 use lib.Dec.{T, leb, leb→le, ltb, ltb→lt}
-use borrow.Author.Tests.{le-leb, lt-ltb}
 use Rattle.lists.proofs.Tests.{both-l, both-r}
 use Rattle.orientation.specs.Orientations.{eighth}
 use Rattle.edge.specs.Coordinates.{insideOf}
@@ -50,13 +49,6 @@ module _ (kind : ℕ) (n : ℕ) (x y : ℕ) where
       go true true m e = m tt tt
       go true false m e = absurd (let z : ⊥ = omega arith in z)
       go false r m e = absurd (let z : ⊥ = omega arith in z)
-
-  -- and back
-  pub unrefused : Placeable kind n x y → refusalOf kind n x y ≡ 0
-  unrefused h =
-      let s = h .sound in
-      let row : (m : ℕ) → 200 ≤ m → m ≤ 11800 → insideOf m ≡ true = λ m f g. λ i. le-leb 200 m f i && le-leb m 11800 g i in
-      sym (refuse true true (λ i. le-leb kind 2 (h .of-kind) i && lt-ltb n 8 (s .turned) i) (λ i. row x (s .left) (s .right) i && row y (s .top) (s .bottom) i))
 
   -- ---- the answers: zeros where the call is refused, else what the drawing of a lawful component gives
   pub pads-refused : (r : ℕ) → r ≡ refusalOf kind n x y → (r ≡ 0 → ⊥) → _≡_ {A = PadsReply} (record { reply = r; pads = block [] }) (padsReplyOf kind n x y)

@@ -86,7 +86,7 @@ module _ (o : RotMirror) (x y : ℕ) where
       (λ i. record { points = e i; count = storedPads k .count })
       ∙ of-kinds (λ (k : ℕ). _≡_ {A = PadBlock} (record { points = mapFirst put (storedPads k .count) (storedPads k .points); count = storedPads k .count }) (padBlock k o x y)) refl refl refl k h
 
--- ---- the box of a kind, by the number: a turn to the right takes each side to the next, and a mirror leaves the box
+-- ---- the box of a kind, by the number: a turn to the right takes each side to the next, and 4 to 7 have the boxes of 0 to 3
 
 -- after that many turns to the right
 abbrev pub turnedBox : ℕ → ℕ → ℕ → ℕ → Bounds

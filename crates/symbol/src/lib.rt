@@ -187,7 +187,7 @@ fn reaching(x: u16, y: u16, left: u16, up: u16, right: u16, down: u16) -> Bounds
     Bounds { low, high }
 }
 
-// The box of a component that a lawful drawing may hold: a turn to the right takes each side to the next, a mirror leaves the box.
+// The box of a component that a lawful drawing may hold: a turn to the right takes each side to the next, and 4 to 7 have the boxes of 0 to 3.
 pub fn bounds_at(kind: u8, n: u8, x: u16, y: u16) -> Bounds
     requires { ⌜ Placeable kind n x y ⌝ }
     ensures { λ r. ⌜ r ≡ boundsAt kind (eighth n) x y ⌝ }
