@@ -7,7 +7,7 @@ use borrow.Author.Tests.{not-true, not-false, eq-eqb, ne-eqb}
 use lib.Dec.{eqb}
 use lib.IntN.{ℤ}
 use lib.Signed.{leZ}
-use Rattle.edge.specs.Coordinates.{biased, ranged, toℕ, sizedReply, sizeOf}
+use Rattle.edge.specs.Coordinates.{biased, ranged, toℕ, sizeOf}
 use Rattle.symbol.specs.Symbols.{knownSymbol}
 use Rattle.label.specs.declared.Label.{Label}
 use Rattle.label.specs.declared.Held.{Held}
@@ -75,7 +75,7 @@ module _ (k : ℕ) (o : ℕ) (x y : ℤ) (l : Label) {j : Bool} (w : j ≡ known
           let s = both (ranged 5800 x) (ranged 5800 y) in-place in
           rw (sort, in-place, eq-eqb (heldLabel l .reply) 0 (sym reply ∙ z)) (λ i. record { reply = 0; part = record { kind = k; orientation = o; x = p .number (s .0) i; y = q .number (s .1) i; label = e i .bytes } })
 
-module _ (x y n : ℤ) {a b c : Found} (p : Tells (ranged 6000 x) (biased x) a) (q : Tells (ranged 6000 y) (biased y) b) (r : Tells (eqb (sizedReply (sizeOf n)) 0) (toℕ n) c) where
+module _ (x y n : ℤ) {a b c : Found} (p : Tells (ranged 6000 x) (biased x) a) (q : Tells (ranged 6000 y) (biased y) b) (r : Tells (eqb (sizeOf n .reply) 0) (toℕ n) c) where
   pointed : (a .inside && b .inside) ≡ (ranged 6000 x && ranged 6000 y)
   pointed = λ i. p .inside-is i && q .inside-is i
 
@@ -95,5 +95,5 @@ module _ (x y n : ℤ) {a b c : Found} (p : Tells (ranged 6000 x) (biased x) a) 
     unfolding askedPointer
     asked-pointer u =
         let s = both (ranged 6000 x) (ranged 6000 y) in-reach in
-        let z : eqb (sizedReply (sizeOf n)) 0 ≡ true = sym (r .inside-is) ∙ not-false _ u in
+        let z : eqb (sizeOf n .reply) 0 ≡ true = sym (r .inside-is) ∙ not-false _ u in
         rw (in-reach, z) (λ i. record { reply = 0; point = record { x = p .number (s .0) i; y = q .number (s .1) i }; size = r .number z i })

@@ -8,8 +8,7 @@ use lib.Dec.{T, eqb, leb, ltb, leb→le, ltb→lt, eqb→eq}
 use lib.IntN.{ℤ, pos, negsuc, natAbs}
 use lib.Signed.{leZ}
 use Rattle.lists.proofs.Tests.{both, both-l, both-r}
-use Rattle.edge.specs.Coordinates.{biased, ranged, insideOf, toℕ, sizedReply, sizeOf}
-use Rattle.edge.specs.declared.PointerSize.the-variants.{Is, Wrong}
+use Rattle.edge.specs.Coordinates.{biased, ranged, insideOf, toℕ, sizeIs, noSize, sizeOf}
 use Rattle.edge.proofs.Whole.{toℕ-sub}
 use Rattle.edge.proofs.Places.{lifted, narrow-test}
 use Rattle.symbol.specs.Symbols.{knownSymbol}
@@ -43,12 +42,12 @@ standing z e =
     let t : T (insideOf (biased z)) = subst T (sym (sym (narrow-test z (omega arith)) ∙ e)) tt in
     (leb→le 200 (biased z) (both-l (leb 200 (biased z)) (leb (biased z) 11800) t), leb→le (biased z) 11800 (both-r (leb 200 (biased z)) (leb (biased z) 11800) t))
 
-sized : (z : ℤ) → eqb (sizedReply (sizeOf z)) 0 ≡ true → toℕ z ≤ 1000
+sized : (z : ℤ) → eqb (sizeOf z .reply) 0 ≡ true → toℕ z ≤ 1000
 unfolding sizeOf
 sized (negsuc n) e = absurd (let y : _≡_ {A = ℕ} 0 1 = cc in omega arith)
 sized (pos n) e = go (leb n 1000) refl e
   where
-    go : (b : Bool) → leb n 1000 ≡ b → eqb (sizedReply (cond b (Is n) Wrong)) 0 ≡ true → n ≤ 1000
+    go : (b : Bool) → leb n 1000 ≡ b → eqb (cond b (sizeIs n) noSize .reply) 0 ≡ true → n ≤ 1000
     go true t e = leb-true n 1000 t
     go false t e = absurd (let y : _≡_ {A = ℕ} 0 1 = cc in omega arith)
 
@@ -96,12 +95,12 @@ pub record Near (a : AskedPointer) : Type 0 where
 module _ (x y n : ℤ) where
   pub pointer-near : {a : AskedPointer} → a ≡ askedPointer x y n → a .reply ≡ 0 → Near a
   unfolding askedPointer
-  pointer-near q = subst (λ (a : AskedPointer). a .reply ≡ 0 → Near a) (sym q) (go (ranged 6000 x && ranged 6000 y) (eqb (sizedReply (sizeOf n)) 0) refl refl)
+  pointer-near q = subst (λ (a : AskedPointer). a .reply ≡ 0 → Near a) (sym q) (go (ranged 6000 x && ranged 6000 y) (eqb (sizeOf n .reply) 0) refl refl)
     where
       A : Bool → Bool → AskedPointer
       A a b = cond a (cond b (record { reply = 0; point = pointAt x y; size = toℕ n }) (noPointer 3)) (noPointer 1)
 
-      go : (a b : Bool) → (ranged 6000 x && ranged 6000 y) ≡ a → eqb (sizedReply (sizeOf n)) 0 ≡ b → A a b .reply ≡ 0 → Near (A a b)
+      go : (a b : Bool) → (ranged 6000 x && ranged 6000 y) ≡ a → eqb (sizeOf n .reply) 0 ≡ b → A a b .reply ≡ 0 → Near (A a b)
       go true true p q z = let a = both (ranged 6000 x) (ranged 6000 y) p in record { x = near x (a .0); y = near y (a .1); size = sized n q }
       go true false p q z = absurd (omega arith)
       go false b p q z = absurd (omega arith)

@@ -5,7 +5,7 @@ use lib.Dec.{eqb}
 use lib.IntN.{ℤ}
 use lib.Signed.{leZ}
 pub use Rattle.edge.specs.Coordinates.{ranged}
-use Rattle.edge.specs.Coordinates.{biased, toℕ, sizedReply, sizeOf}
+use Rattle.edge.specs.Coordinates.{biased, toℕ, sizeOf}
 use Rattle.label.specs.declared.Label.{Label}
 use Rattle.label.specs.Labels.{heldLabel}
 use Rattle.symbol.specs.declared.Point.{Point}
@@ -65,5 +65,5 @@ noPointer n = record { reply = n; point = unused; size = 0 }
 unfoldable pub askedPointer : ℤ → ℤ → ℤ → AskedPointer
 askedPointer x y size =
     cond (ranged 6000 x && ranged 6000 y)
-    (cond (eqb (sizedReply (sizeOf size)) 0) (record { reply = 0; point = pointAt x y; size = toℕ size }) (noPointer 3))
+    (cond (eqb (sizeOf size .reply) 0) (record { reply = 0; point = pointAt x y; size = toℕ size }) (noPointer 3))
     (noPointer 1)

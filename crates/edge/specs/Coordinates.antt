@@ -37,12 +37,24 @@ biasedWithin limit z = found (ranged limit z) (biased z)
 abbrev pub insideOf : ℕ → Bool
 insideOf n = leb 200 n && leb n 11800
 
--- "Pointer size: 0 to 1,000."
-unfoldable pub sizeOf : ℤ → PointerSize
-sizeOf (pos n) = cond (leb n 1000) (Is n) Wrong
-sizeOf (negsuc n) = Wrong
+-- a size that is asked for: document 01's number, and the size
+pub record SizeAnswer : Type 0 where
+  pub reply : ℕ
+  pub size : ℕ
 
--- the numbered reply of each case: "3: size outside its range"
-abbrev pub sizedReply : PointerSize → ℕ
-sizedReply (Is n) = 0
-sizedReply Wrong = 3
+abbrev pub sizeIs : ℕ → SizeAnswer
+sizeIs n = record { reply = 0; size = n }
+
+-- "3: size outside its range"
+abbrev pub noSize : SizeAnswer
+noSize = record { reply = 3; size = 0 }
+
+-- "Pointer size: 0 to 1,000."
+unfoldable pub sizeOf : ℤ → SizeAnswer
+sizeOf (pos n) = cond (leb n 1000) (sizeIs n) noSize
+sizeOf (negsuc n) = noSize
+
+-- "For an answer that is an enum, a definition provides this paper's number and values for each of the enum's cases."
+abbrev pub sized : PointerSize → SizeAnswer
+sized (Is n) = sizeIs n
+sized Wrong = noSize

@@ -1,6 +1,6 @@
 // The edge between the coordinates of document 01 and the numbers that rows hold: 6,000 more.
 ghost use mathlib.Core.Path.{_≡_};
-ghost use Rattle.edge.specs.Coordinates.{coordOf, biasedWithin, insideOf, sizeOf};
+ghost use Rattle.edge.specs.Coordinates.{coordOf, biasedWithin, insideOf, sizeOf, sized};
 
 // A coordinate as rows hold it, or none and 0.
 pub struct Found {
@@ -62,7 +62,7 @@ pub fn coordinate(n: u16) -> i32
 
 // A pointer size, 0 to 1,000.
 pub fn size(s: i32) -> PointerSize
-    ensures { λ r. ⌜ r ≡ sizeOf s ⌝ }
+    ensures { λ r. ⌜ sized r ≡ sizeOf s ⌝ }
 {
     if s < 0 {
         return PointerSize::Wrong;

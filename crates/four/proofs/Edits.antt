@@ -7,7 +7,7 @@ use lib.IntN.{ℤ}
 use lib.Signed.{leZ}
 use Rattle.lists.specs.Lists.{any}
 use Rattle.lists.proofs.Mapped.{any-mapped}
-use Rattle.edge.specs.Coordinates.{toℕ, ranged, sizedReply, sizeOf}
+use Rattle.edge.specs.Coordinates.{toℕ, ranged, sizeOf}
 use Rattle.orientation.specs.Orientations.{eighth}
 use Rattle.orientation.proofs.Turns.{known-number}
 use Rattle.label.specs.declared.Label.{Label}
@@ -82,8 +82,8 @@ module _ (d : Drawing) (t : Tally) where
       let p = pointAt x y in
       let n = toℕ size in
       let o = g p n in
-      unless (ranged 6000 x && ranged 6000 y) 1 (Number.refusedUnless (eqb (sizedReply (sizeOf size)) 0) 3 d t (Number.edited d t o))
-      (unless (eqb (sizedReply (sizeOf size)) 0) 3 (Number.edited d t o) (after o (ap (f p n) (lists-same d) ∙ e p n)))
+      unless (ranged 6000 x && ranged 6000 y) 1 (Number.refusedUnless (eqb (sizeOf size .reply) 0) 3 d t (Number.edited d t o))
+      (unless (eqb (sizeOf size .reply) 0) 3 (Number.edited d t o) (after o (ap (f p n) (lists-same d) ∙ e p n)))
 
 pub same-edits : SameEdits
 unfolding Number.deleteAt Four.deleteAt Number.rotateAt Four.rotateAt Number.mirrorAt Four.mirrorAt

@@ -8,7 +8,7 @@ use lib.IntN.{ℤ}
 use lib.ListN.{length}
 use lib.Signed.{leZ}
 use Rattle.lists.specs.Lists.{any}
-use Rattle.edge.specs.Coordinates.{toℕ, biased, ranged, sizedReply, sizeOf}
+use Rattle.edge.specs.Coordinates.{toℕ, biased, ranged, sizeOf}
 use Rattle.orientation.specs.declared.RotMirror.{RotMirror}
 use Rattle.orientation.specs.declared.FourNumbers.{FourNumbers}
 use Rattle.orientation.specs.Orientations.{known, fourAre, noFour}
@@ -113,7 +113,7 @@ addComponent d kind o x y label t =
 unfoldable pub pointed : Drawing → ℤ → ℤ → ℤ → Tally → (Point → ℕ → Outcome) → Edited
 pointed d x y size t edit =
     refusedUnless (ranged 6000 x && ranged 6000 y) 1 d t
-    (refusedUnless (eqb (sizedReply (sizeOf size)) 0) 3 d t
+    (refusedUnless (eqb (sizeOf size .reply) 0) 3 d t
     (edited d t (edit (pointAt x y) (toℕ size))))
 
 -- "Delete."

@@ -7,7 +7,7 @@ use lib.Dec.{eqb}
 use lib.IntN.{ℤ}
 use lib.Signed.{leZ}
 use Rattle.lists.specs.Lists.{any}
-use Rattle.edge.specs.Coordinates.{toℕ, sizedReply, sizeOf}
+use Rattle.edge.specs.Coordinates.{toℕ, sizeOf}
 use Rattle.symbol.specs.Symbols.{knownSymbol}
 use Rattle.label.specs.declared.Label.{Label}
 use Rattle.label.specs.Labels.{heldLabel}
@@ -84,7 +84,7 @@ module _ (d : Drawing) (t : Tally) (a : AskedPart) where
 
 pub pointer-decides : (d : Drawing) (x y n : ℤ) (t : Tally) (edit : Point → ℕ → Outcome) {a : AskedPointer} → a ≡ askedPointer x y n → Decides d t (a .reply) (edited d t (edit (a .point) (a .size))) (pointed d x y n t edit)
 unfolding askedPointer pointed
-pointer-decides d x y n t edit q = subst (λ (a : AskedPointer). Decides d t (a .reply) (X a) (pointed d x y n t edit)) (sym q) (go (ranged 6000 x && ranged 6000 y) (eqb (sizedReply (sizeOf n)) 0))
+pointer-decides d x y n t edit q = subst (λ (a : AskedPointer). Decides d t (a .reply) (X a) (pointed d x y n t edit)) (sym q) (go (ranged 6000 x && ranged 6000 y) (eqb (sizeOf n .reply) 0))
   where
     X : AskedPointer → Edited
     X a = edited d t (edit (a .point) (a .size))

@@ -11,7 +11,7 @@ use lib.Signed.{leZ, ≤ℤ-refl}
 use Rattle.lists.specs.Lists.{_∈_}
 use Rattle.lists.proofs.Appends.{length-keep}
 use Rattle.lists.proofs.Tests.{agree}
-use Rattle.edge.specs.Coordinates.{toℕ, sizedReply, sizeOf}
+use Rattle.edge.specs.Coordinates.{toℕ, sizeOf}
 use Rattle.symbol.specs.declared.Point.{Point}
 use Rattle.sheet.specs.declared.Wire.{Wire}
 use Rattle.sheet.specs.declared.Component.{Component}
@@ -74,7 +74,7 @@ module _ {d : Drawing} (l : Lawful d) (t : Tally) where
   unfolding deleteAt pointed
   delete-roomy x y n =
       let o = quiet (delete (pointAt x y) (toℕ n) (listsOf d)) in
-      go (ranged 6000 x && ranged 6000 y) (eqb (sizedReply (sizeOf n)) 0) (edited d t o) (subst NotFull (sym (edited-room d t o (delete-room (pointAt x y) (toℕ n)))) (below-seven 0 (omega arith)))
+      go (ranged 6000 x && ranged 6000 y) (eqb (sizeOf n .reply) 0) (edited d t o) (subst NotFull (sym (edited-room d t o (delete-room (pointAt x y) (toℕ n)))) (below-seven 0 (omega arith)))
     where
       go : (a b : Bool) (e : Edited) → NotFull e → NotFull (refusedUnless a 1 d t (refusedUnless b 3 d t e))
       go true true e r = r
@@ -106,6 +106,6 @@ module _ {d : Drawing} (l : Lawful d) (t : Tally) where
   missed Mirror p n m = turn-nothing (hits p n) mirrored (listsOf d) (lawful-good l) m
 
   -- "A delete, turn or mirror that hits nothing gives 0."
-  pub act-idle : Sized d → (a : Act) (x y n : ℤ) → ranged 6000 x ≡ true → ranged 6000 y ≡ true → eqb (sizedReply (sizeOf n)) 0 ≡ true → Misses a (pointAt x y) (toℕ n) → pointed d x y n t (λ p m. acted a p m (listsOf d)) ≡ still d
+  pub act-idle : Sized d → (a : Act) (x y n : ℤ) → ranged 6000 x ≡ true → ranged 6000 y ≡ true → eqb (sizeOf n .reply) 0 ≡ true → Misses a (pointAt x y) (toℕ n) → pointed d x y n t (λ p m. acted a p m (listsOf d)) ≡ still d
   unfolding pointed
   act-idle z a x y n p q r m = rw (p, q, r) (ap (edited d t) (missed a (pointAt x y) (toℕ n) m) ∙ still-is z)

@@ -6,7 +6,7 @@ use lib.Dec.{eqb}
 use lib.IntN.{ℤ}
 use lib.Signed.{leZ}
 use Rattle.lists.specs.Lists.{any}
-use Rattle.edge.specs.Coordinates.{toℕ, sizedReply, sizeOf}
+use Rattle.edge.specs.Coordinates.{toℕ, sizeOf}
 use Rattle.label.specs.declared.Label.{Label}
 use Rattle.label.specs.Labels.{heldLabel}
 use Rattle.symbol.specs.declared.Point.{Point}
@@ -62,7 +62,7 @@ addComponent d kind o x y label t =
 unfoldable pub pointed : Drawing → ℤ → ℤ → ℤ → Tally → (Point → ℕ → Outcome) → Edited
 pointed d x y size t edit =
     refusedUnless (ranged 6000 x && ranged 6000 y) 1 d t
-    (refusedUnless (eqb (sizedReply (sizeOf size)) 0) 3 d t
+    (refusedUnless (eqb (sizeOf size .reply) 0) 3 d t
     (edited d t (edit (pointAt x y) (toℕ size))))
 
 -- "Delete."; "Hit and lost are 0 for wire, place and delete."

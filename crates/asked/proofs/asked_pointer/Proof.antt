@@ -23,18 +23,18 @@ no-pointer-requires c κs = search needs
 
 returns : tie.Need-returns
 returns c = let k = c .before .before .before .before in let s = k .before .before .before .before in
-    c .no-pointer .ensures ∙ far-pointer _ _ _ (in-range _ (s .fits .x) 6000 (k .before .before .before .place .ensures)) (in-range _ (s .fits .y) 6000 (k .before .before .place2 .ensures)) (in-size _ (s .fits .size) (k .before .size .ensures) (k .size-row .ensures)) (c .before .if1 .taken)
+    c .no-pointer .ensures ∙ far-pointer _ _ _ (in-range _ (s .fits .x) 6000 (k .before .before .before .place .ensures)) (in-range _ (s .fits .y) 6000 (k .before .before .place2 .ensures)) (in-size _ (s .fits .size) (k .before .size .result) (k .before .size .ensures) (k .size-row .ensures)) (c .before .if1 .taken)
 
 no-pointer-requires-2 : tie.Need-no-pointer-requires-2
 no-pointer-requires-2 c κs = search needs
 
 returns-2 : tie.Need-returns-2
 returns-2 c = let k = c .before .before .before .before .before .before in let s = k .before .before .before .before in
-    c .no-pointer2 .ensures ∙ sizeless-pointer _ _ _ (in-range _ (s .fits .x) 6000 (k .before .before .before .place .ensures)) (in-range _ (s .fits .y) 6000 (k .before .before .place2 .ensures)) (in-size _ (s .fits .size) (k .before .size .ensures) (k .size-row .ensures)) (c .before .before .before .if1 .left) (c .before .if2 .taken)
+    c .no-pointer2 .ensures ∙ sizeless-pointer _ _ _ (in-range _ (s .fits .x) 6000 (k .before .before .before .place .ensures)) (in-range _ (s .fits .y) 6000 (k .before .before .place2 .ensures)) (in-size _ (s .fits .size) (k .before .size .result) (k .before .size .ensures) (k .size-row .ensures)) (c .before .before .before .if1 .left) (c .before .if2 .taken)
 
 returns-3 : tie.Need-returns-3
 returns-3 c = let k = c .before .before .before .before .before in let s = k .before .before .before .before in
-    asked-pointer _ _ _ (in-range _ (s .fits .x) 6000 (k .before .before .before .place .ensures)) (in-range _ (s .fits .y) 6000 (k .before .before .place2 .ensures)) (in-size _ (s .fits .size) (k .before .size .ensures) (k .size-row .ensures)) (c .before .before .if1 .left) (c .if2 .left)
+    asked-pointer _ _ _ (in-range _ (s .fits .x) 6000 (k .before .before .before .place .ensures)) (in-range _ (s .fits .y) 6000 (k .before .before .place2 .ensures)) (in-size _ (s .fits .size) (k .before .size .result) (k .before .size .ensures) (k .size-row .ensures)) (c .before .before .if1 .left) (c .if2 .left)
 
 pub asked-pointer-spec : {M : Type 1} → statement M
 asked-pointer-spec =
