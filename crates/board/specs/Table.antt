@@ -3,16 +3,15 @@
 use Prim.Native.String.{String}
 use mathlib.Core.List.{List, [], _∷_, map}
 use mathlib.Core.Path.{_≡_}
-use Rattle.step.specs.Steps.{noTally}
-use Rattle.board.specs.Lines.{printedBy, text, emptyDrawing}
+use Rattle.board.specs.Lines.{printedBy, text, emptyDrawing, nines}
 
 -- each line of a script, with the lines that it prints
 abbrev pub Example : Type 0
 Example = List (String × List String)
 
--- the lines of the example, through the public calls, print what stands beside them
+-- the lines of the example, through the call, print what stands beside them; the tally lent at first is 9 9 9 9
 abbrev pub ExampleHolds : Example → Type 0
-ExampleHolds e = printedBy emptyDrawing noTally (map (λ l. l .0) e) ≡ map (λ l. text (l .1)) e
+ExampleHolds e = printedBy emptyDrawing nines (map (λ l. l .0) e) ≡ map (λ l. text (l .1)) e
 
 -- each of the examples holds
 pub data All : List Example → Type 0 where
@@ -58,13 +57,13 @@ zeroLength =
 -- "`h 0 6 5`: 2."
 abbrev pub backward : Example
 backward =
-    ("h 0 6 5", "A 2" ∷ "T 0 0 0 0" ∷ [])
+    ("h 0 6 5", "A 2" ∷ "T 9 9 9 9" ∷ [])
     ∷ []
 
 -- "`h 6001 0 9`: 1; `h 6000 0 9`: 0."
 abbrev pub outside : Example
 outside =
-    ("h 6001 0 9", "A 1" ∷ "T 0 0 0 0" ∷ [])
+    ("h 6001 0 9", "A 1" ∷ "T 9 9 9 9" ∷ [])
     ∷ ("h 6000 0 9", "A 0" ∷ "T 1 2 0 2" ∷ "W h 6000 0 9" ∷ "J 0 6000 1" ∷ "J 9 6000 1" ∷ [])
     ∷ []
 

@@ -25,6 +25,7 @@ use schematic::rotate_component_at_point;
 use sheet::Drawing;
 use sheet::Tally;
 use sheet::Wire;
+use step::step;
 
 const NINES: Tally = Tally {
     wires: 9,
@@ -187,6 +188,43 @@ pub(crate) fn lent() {
     put_tally(tally_after_wire(empty(), false, 0, 0, 100));
 }
 
+// A script line as a call: reply, hit and lost, tally, and the whole buffer afterwards.
+fn line(d: Drawing, text: &[u8], out: &mut [u8]) {
+    put(b"> ");
+    put(text);
+    let s = step(d, text, NINES, out);
+    put(b"\nstep");
+    put_count(s.reply as u32);
+    put_count(s.hit);
+    put_count(s.lost);
+    put(b" ");
+    io::print_decimal(libc::STDOUT_FILENO, s.length as u64);
+    put(b"\n");
+    put(out);
+    put(b"\n");
+    let t = s.tally;
+    put_tally(t);
+}
+
+// "Order: 10, 9, ..": lines on a drawing that is not lawful, in a buffer of 9 bytes.
+pub(crate) fn lines() {
+    put(b"# script lines on a drawing that is not lawful, in a buffer of 9 bytes\n");
+    let ws = wires(wire(false, 6000, 6000, 6100), wire(false, 0, 0, 0), 1);
+    let e = empty();
+    let cs = e.components;
+    let js = e.joints;
+    let d = Drawing {
+        wires: ws,
+        components: cs,
+        joints: js,
+    };
+    let mut out = [b'.'; 9];
+    line(d, b"h 6001  5 4", &mut out);
+    line(d, b"h 6001 5 4", &mut out);
+    line(d, b"m 6001 0 1001", &mut out);
+    line(d, b"n", &mut out);
+}
+
 // "8: the list is longer than the lent buffer"; "bytes behind it stay. A refusal tells length 0."
 pub(crate) fn buffers() {
     let d = run(
@@ -203,4 +241,14 @@ pub(crate) fn buffers() {
     let mut none = [0u8; 0];
     list(d, &mut none);
     list(empty(), &mut none);
+    put(b"# lines in buffers of 40, 41, 44 and 45 bytes, and of none\n");
+    let mut short = [b'.'; 40];
+    line(d, b"n", &mut short);
+    let mut exact = [b'.'; 41];
+    line(d, b"n", &mut exact);
+    let mut most = [b'.'; 44];
+    line(d, b"n", &mut most);
+    let mut long = [b'.'; 45];
+    line(d, b"n", &mut long);
+    line(d, b"h 6000 0 9", &mut none);
 }

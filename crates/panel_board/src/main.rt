@@ -117,6 +117,7 @@ fn main() {
     calls::outside();
     calls::labels();
     calls::lent();
+    calls::lines();
     shapes::shapes();
     calls::buffers();
 }

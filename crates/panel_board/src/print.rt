@@ -43,7 +43,7 @@ fn put_reply(e: Edited, hits: bool) {
 }
 
 // The tally and all rows in use; of a large drawing the tally alone, and of one that is not lawful.
-fn put_drawing(d: Drawing, t: Tally) {
+pub(crate) fn put_drawing(d: Drawing, t: Tally) {
     let js = d.joints;
     if js.count < 100 {
         let k = lawful::check(d);

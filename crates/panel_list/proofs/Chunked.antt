@@ -1,49 +1,51 @@
 -- For the loop that takes a chunk part by part: `start`, `on`, and `at-end`.
 use mathlib.Core.Path.{_≡_, refl, sym, ap, subst, _∙_}
-use mathlib.Core.Bool.{Bool, true, false, cond}
-use mathlib.Core.List.{List, [], _∷_}
+use mathlib.Core.Bool.{Bool, true, false}
+use mathlib.Core.List.{List, [], _++_, append-assoc, append-nil}
 use Prim.Native.Nat.{ℕ, _+_, _-_, _≤_, _<_}
 use native.Mathlib.Omega.{arith}
-use lib.Dec.{eqb}
 use lib.ListN.{length, take, drop, length-drop}
 use lib.Seq.{take-all, drop-drop}
 use Rattle.sheet.specs.declared.Drawing.{Drawing}
 use Rattle.sheet.specs.Rules.{Lawful}
-use Rattle.lines.specs.Lines.{newline}
-use Rattle.lines.specs.Chunks.{hold}
-use Rattle.lines.specs.Runs.{Ran, ran, throughChunk}
+use Rattle.lines.specs.Runs.{ran, throughChunk}
 use Rattle.lines.proofs.Runs.{run-end}
-use Rattle.step.specs.Steps.{After}
-use Rattle.step.specs.Redrawing.{redrawn, Done}
+use Rattle.step.specs.Scripts.{progress, andThen}
 use Rattle.panel_list.specs.declared.answers.Taken.{Taken}
-use Rattle.panel_list.specs.Printing.{after, andThen, Takes}
+use Rattle.panel_list.specs.Sums.{sumOf}
+use Rattle.panel_list.specs.Printing.{Takes, Done}
+use Rattle.panel_list.proofs.Sums.{sum-append}
+use Rattle.panel_list.proofs.Shifted.{shift, shifted}
 
--- the drawing goes its way whatever was printed
-abbrev drawingOf : Ran After → Ran Drawing
-drawingOf (ran a held) = ran (a .drawing) held
-
-apart : (a : After) (held s : List ℕ) → throughChunk redrawn (a .drawing) held s ≡ drawingOf (throughChunk andThen a held s)
-unfolding throughChunk
-apart a held [] = refl
-apart a held (b ∷ s) = go (eqb b newline) (throughChunk andThen (andThen a held) [] s) (throughChunk andThen a (hold held b) s) (apart (andThen a held) [] s) (apart a (hold held b) s)
-  where
-    go : (t : Bool) (u v : Ran After) {x y : Ran Drawing} → x ≡ drawingOf u → y ≡ drawingOf v → cond t x y ≡ drawingOf (cond t u v)
-    go true u v p q = p
-    go false u v p q = q
-
-module _ (chunk held₀ : List ℕ) (begun : ℕ) (d₀ : Drawing) where
-  pub record Chunked (held : List ℕ) (at count : ℕ) (d : Drawing) : Type 0 where
-    pub left : throughChunk redrawn d (take count held) (drop at chunk) ≡ throughChunk redrawn d₀ (take begun held₀) chunk
+module _ (chunk held₀ : List ℕ) (d₀ : Drawing) (begun sum₀ : ℕ) where
+  pub record Chunked (held : List ℕ) (at count : ℕ) (d : Drawing) (sum : ℕ) : Type 0 where
+    pub output : List ℕ
+    pub summed : sum ≡ sumOf sum₀ output
+    pub left : (before : List ℕ) → throughChunk andThen (progress d (before ++ output)) (take count held) (drop at chunk) ≡ throughChunk andThen (progress d₀ before) (take begun held₀) chunk
     pub lawful : Lawful d
     pub inside : at ≤ length chunk
     pub few : count ≤ 81
 
-  pub start : Lawful d₀ → begun ≤ 81 → Chunked held₀ 0 begun d₀
-  start l h = record { left = refl; lawful = l; inside = omega arith; few = h }
+  pub start : Lawful d₀ → begun ≤ 81 → Chunked held₀ 0 begun d₀ sum₀
+  start l h = record {
+    output = [];
+    summed = unfold sumOf in refl;
+    left = λ before. ap (λ o. throughChunk andThen (progress d₀ o) (take begun held₀) chunk) (append-nil before);
+    lawful = l;
+    inside = omega arith;
+    few = h;
+  }
 
-  module _ {held : List ℕ} {at count : ℕ} {d : Drawing} (g : Chunked held at count d) where
-    pub at-end : length chunk ≤ at → Done d₀ chunk held₀ begun (record { drawing = d; count = count }) held
-    at-end h = record { whole = sym (run-end redrawn d (take count held) chunk at h) ∙ g .left; lawful = g .lawful; few = g .few }
+  module _ {held : List ℕ} {at count : ℕ} {d : Drawing} {sum : ℕ} (g : Chunked held at count d sum) where
+    -- the way out: at the chunk's end, or after a write that failed
+    pub at-end : (failed : Bool) → (failed ≡ false → length chunk ≤ at) → Done d₀ begun sum₀ chunk held₀ (record { drawing = d; count = count; sum = sum; failed = failed }) held
+    at-end failed h = record {
+      output = g .output;
+      summed = g .summed;
+      whole = λ e before. sym (run-end andThen (progress d (before ++ g .output)) (take count held) chunk at (h e)) ∙ g .left before;
+      lawful = g .lawful;
+      few = g .few;
+    }
 
     -- the rest of the chunk, as it is lent
     rest : take (length chunk - at) (drop at chunk) ≡ drop at chunk
@@ -53,18 +55,30 @@ module _ (chunk held₀ : List ℕ) (begun : ℕ) (d₀ : Drawing) where
       goes-on : Takes d (drop at chunk) held count r held′ out′
       goes-on = subst (λ c. Takes d c held count r held′ out′) rest t
 
-      pub on : Chunked held′ (at + r .at) (r .count) (r .drawing)
-      on =
+      -- what is left behind the part, with anything printed before it
+      onward : (before : List ℕ) → throughChunk andThen (progress (r .drawing) (before ++ take (r .used) out′)) (take (r .count) held′) (drop (at + r .at) chunk) ≡ throughChunk andThen (progress d before) (take count held) (drop at chunk)
+      onward before =
+          ap (λ s. throughChunk andThen (progress (r .drawing) (before ++ take (r .used) out′)) (take (r .count) held′) s) (sym (drop-drop (r .at) at chunk))
+          ∙ shifted before (r .drawing) (take (r .used) out′) (take (r .count) held′) (drop (r .at) (drop at chunk))
+          ∙ ap (shift before) (goes-on .left)
+          ∙ sym (shifted before d [] (take count held) (drop at chunk))
+          ∙ ap (λ o. throughChunk andThen (progress d o) (take count held) (drop at chunk)) (append-nil before)
+
+      pub reached : at + r .at ≤ length chunk
+      reached = omega (arith, goes-on .inside, length-drop at chunk, g .inside)
+
+      -- and its print handed over
+      pub on : {sum′ : ℕ} → sum′ ≡ sumOf sum (take (r .used) out′) → Chunked held′ (at + r .at) (r .count) (r .drawing) sum′
+      on e =
           let u = goes-on in
-          let x : After = after (r .drawing) (take (r .used) out′) in
           record {
-            left = ap (λ s. throughChunk redrawn (r .drawing) (take (r .count) held′) s) (sym (drop-drop (r .at) at chunk))
-                ∙ apart x (take (r .count) held′) (drop (r .at) (drop at chunk))
-                ∙ ap drawingOf (u .left)
-                ∙ sym (apart (after d []) (take count held) (drop at chunk))
-                ∙ g .left;
+            output = g .output ++ take (r .used) out′;
+            summed = e ∙ ap (λ s. sumOf s (take (r .used) out′)) (g .summed) ∙ sym (sum-append sum₀ (g .output) (take (r .used) out′));
+            left = λ before.
+                ap (λ o. throughChunk andThen (progress (r .drawing) o) (take (r .count) held′) (drop (at + r .at) chunk)) (sym (append-assoc before (g .output) (take (r .used) out′)))
+                ∙ onward (before ++ g .output) ∙ g .left before;
             lawful = u .lawful;
-            inside = omega (arith, u .inside, length-drop at chunk, g .inside);
+            inside = reached;
             few = u .few;
           }
 

@@ -1,7 +1,7 @@
 -- `whole`: what the lines of chunks print, one after the other, and the last line at the end, is what the script prints, wherever
 -- the input is cut into chunks.
-use mathlib.Core.Path.{_≡_, sym, ap, _∙_}
-use mathlib.Core.List.{List, [], _∷_, _++_, append-assoc, append-nil}
+use mathlib.Core.Path.{_≡_, ap}
+use mathlib.Core.List.{List, [], _++_}
 use Prim.Native.Nat.{ℕ}
 use lib.ListN.{take}
 use Rattle.sheet.specs.declared.Drawing.{Drawing}
@@ -9,28 +9,22 @@ use Rattle.redraw.specs.Calls.{refused}
 use Rattle.script.specs.declared.Command.the-variants.{Unreadable}
 use Rattle.script.specs.Reading.{commandOf}
 use Rattle.script.proofs.Meaning.{only-81}
-use Rattle.lines.specs.Lines.{linesOf}
-use Rattle.lines.specs.Runs.{ran, joined, through, chunks, finish}
+use Rattle.lines.specs.Runs.{ran, joined, chunks, finish}
 use Rattle.lines.proofs.Runs.{in-chunks}
-use Rattle.step.specs.Steps.{After, plainly, noTally, does, stepOf, linesPrint, scriptOf}
-use Rattle.panel_list.specs.Printing.{start, andThen}
+use Rattle.step.specs.Steps.{After, printed, plainly, editOf, told, stepOf}
+use Rattle.step.specs.Scripts.{Progress, progress, noTally, start, andThen, scriptOf}
 
-step-unreadable : (d : Drawing) (l : List ℕ) → commandOf l ≡ Unreadable → stepOf d l ≡ plainly (refused 10 d noTally)
-unfolding stepOf does
-step-unreadable d l e = ap (does d l) e
+step-unreadable : (d : Drawing) (l : List ℕ) → commandOf l ≡ Unreadable → stepOf d noTally l ≡ plainly (refused 10 d noTally)
+unfolding stepOf editOf
+step-unreadable d l e = ap (λ k. told k (editOf d noTally l k)) e
 
 -- a line is told from no other by more than its first 81 bytes
-step-81 : (d : Drawing) (l : List ℕ) → stepOf d (take 81 l) ≡ stepOf d l
-step-81 d = only-81 (stepOf d) (plainly (refused 10 d noTally)) (step-unreadable d)
+step-81 : (d : Drawing) (l : List ℕ) → stepOf d noTally (take 81 l) ≡ stepOf d noTally l
+step-81 d = only-81 (stepOf d noTally) (plainly (refused 10 d noTally)) (step-unreadable d)
 
-then-81 : (a : After) (l : List ℕ) → andThen a (take 81 l) ≡ andThen a l
-then-81 a l = ap (λ (s : After). record { drawing = s .drawing; printed = a .printed ++ s .printed }) (step-81 (a .drawing) l)
+then-81 : (a : Progress) (l : List ℕ) → andThen a (take 81 l) ≡ andThen a l
+then-81 a l = ap (λ (s : After). progress (s .outcome .drawing) (a .output ++ printed s)) (step-81 (a .drawing) l)
 
-through-prints : (a : After) (ls : List (List ℕ)) → through andThen a ls .printed ≡ a .printed ++ linesPrint (a .drawing) ls
-unfolding through linesPrint
-through-prints a [] = sym (append-nil (a .printed))
-through-prints a (l ∷ ls) = through-prints (andThen a l) ls ∙ append-assoc (a .printed) (stepOf (a .drawing) l .printed) (linesPrint (stepOf (a .drawing) l .drawing) ls)
-
-pub whole : (ss : List (List ℕ)) → finish andThen (chunks andThen (ran start []) ss) .printed ≡ scriptOf (joined ss)
+pub whole : (ss : List (List ℕ)) → finish andThen (chunks andThen (ran start []) ss) .output ≡ scriptOf (joined ss)
 unfolding scriptOf
-whole ss = ap (λ (a : After). a .printed) (in-chunks andThen then-81 start ss) ∙ through-prints start (linesOf (joined ss))
+whole ss = ap (λ (a : Progress). a .output) (in-chunks andThen then-81 start ss)

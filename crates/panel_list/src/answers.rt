@@ -6,8 +6,14 @@ ghost use Rattle.panel_list.specs.Printing.{Prints, Takes};
 use lines::Cut;
 use lines::next_line;
 use sheet::Drawing;
-use step::Stepped;
-use step::step;
+use step::NO_TALLY;
+use step::step_on;
+
+// The drawing after a line, and how many bytes were printed.
+pub struct Answered {
+    pub drawing: Drawing,
+    pub used: usize,
+}
 
 // The drawing, how much of the chunk was taken, how many bytes of a line that goes on are held, and how many were printed.
 pub struct Taken {
@@ -17,21 +23,27 @@ pub struct Taken {
     pub used: usize,
 }
 
-// What a line prints, behind the bytes used; the answer's length is how many are used then.
-fn print(drawing: Drawing, line: &[u8], out: &mut [u8], used: usize) -> Stepped
+// What a line prints, behind the bytes used.
+fn print(drawing: Drawing, line: &[u8], out: &mut [u8], used: usize) -> Answered
     requires { ⌜ Lawful drawing ⌝ ∗ ⌜ used + 8192 ≤ length (now out) ⌝ }
     ensures { λ r. ⌜ Prints drawing (now (line .entry)) used (now (out .entry)) r (now (out .exit)) ⌝ }
 {
-    let s = step(drawing, line, &mut out[used..]);
+    let s = step_on(drawing, line, NO_TALLY, &mut out[used..]);
     let d = s.drawing;
-    Stepped {
+    Answered {
         drawing: d,
-        length: used + s.length,
+        used: used + s.length,
     }
 }
 
 // Takes lines until the chunk is used up or less than 8,192 bytes are left, which a line may need.
-pub fn take_lines(d: Drawing, chunk: &[u8], held: &mut [u8], begun: usize, out: &mut [u8]) -> Taken
+pub(crate) fn take_lines(
+    d: Drawing,
+    chunk: &[u8],
+    held: &mut [u8],
+    begun: usize,
+    out: &mut [u8],
+) -> Taken
     requires { ⌜ Lawful d ⌝ ∗ ⌜ 81 ≤ length (now held) ⌝ ∗ ⌜ begun ≤ 81 ⌝ ∗ ⌜ 8192 ≤ length (now out) ⌝ }
     ensures { λ r. ⌜ Takes d (now (chunk .entry)) (now (held .entry)) begun r (now (held .exit)) (now (out .exit)) ⌝ }
 {
@@ -52,7 +64,7 @@ pub fn take_lines(d: Drawing, chunk: &[u8], held: &mut [u8], begun: usize, out: 
             Cut::Line { count: n, next } => {
                 let s = print(drawing, &held[..n], out, used);
                 drawing = s.drawing;
-                used = s.length;
+                used = s.used;
                 count = 0;
                 at = next;
             }

@@ -19,7 +19,8 @@ use Rattle.script.proofs.Command as command
 use Rattle.text.specs.Text.{Put}
 use Rattle.text.proofs.Puts.{put-then}
 use Rattle.dump.specs.Rows.{rowsOf, Puts}
-use Rattle.panel_rows.specs.Printing.{asksList, behind}
+use Rattle.step.specs.Telling.{asksList}
+use Rattle.panel_rows.specs.Printing.{behind}
 
 -- no other command than `n` asks for the list
 pub asks-none : (c : Command) → OneOf (0 ∷ 1 ∷ 2 ∷ 3 ∷ 4 ∷ 5 ∷ 7 ∷ []) (tagOf command.the-type c) → false ≡ asksList c

@@ -4,17 +4,23 @@ ghost use Prim.Native.Nat.{_≤_};
 ghost use lib.ListN.{length};
 ghost use Rattle.sheet.specs.Rules.{Lawful};
 ghost use Rattle.script.specs.Reading.{commandOf};
-ghost use Rattle.step.specs.Steps.{Answers};
+ghost use Rattle.step.specs.Telling.{asksList};
 ghost use Rattle.dump.specs.Rows.{Puts, Space};
-ghost use Rattle.panel_rows.specs.Printing.{asksList, behind, rowsStep};
+ghost use Rattle.panel_rows.specs.Printing.{behind, PrintsRows};
 use dump::put_rows;
 use joints::tally::tally;
 use script::Command;
 use script::read_line;
 use sheet::Drawing;
-use step::Stepped;
-use step::step;
+use step::NO_TALLY;
+use step::step_on;
 use text::put_byte;
+
+// The drawing after a line, and how many bytes of the lent buffer the line printed.
+pub struct Printed {
+    pub drawing: Drawing,
+    pub length: usize,
+}
 
 // Whether a line asks for the list.
 fn asks_list(line: &[u8]) -> bool
@@ -40,15 +46,15 @@ fn put_behind(out: &mut [u8], at: usize, list: bool, d: Drawing) -> usize
 }
 
 // What a line does and prints: 61,488 bytes always suffice, 8,192 for the answer and 53,296 for the rows.
-pub(crate) fn rows_step(d: Drawing, line: &[u8], out: &mut [u8]) -> Stepped
+pub(crate) fn rows_step(d: Drawing, line: &[u8], out: &mut [u8]) -> Printed
     requires { ⌜ 61488 ≤ length (now out) ⌝ ∗ ⌜ Lawful d ⌝ }
-    ensures { λ r. ⌜ Answers (rowsStep d (now (line .entry))) (now (out .entry)) (now (out .exit)) r × Lawful (r .drawing) ⌝ }
+    ensures { λ r. ⌜ PrintsRows d (now (line .entry)) (now (out .entry)) (now (out .exit)) r ⌝ }
 {
     let list = asks_list(line);
     let room: usize = 8192;
-    let s = step(d, line, &mut out[..room]);
+    let s = step_on(d, line, NO_TALLY, &mut out[..room]);
     let drawing = s.drawing;
     let at = s.length;
     let length = put_behind(out, at, list, drawing);
-    Stepped { drawing, length }
+    Printed { drawing, length }
 }

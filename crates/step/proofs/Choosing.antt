@@ -18,7 +18,8 @@ use Rattle.label.specs.declared.Label.{Label}
 use Rattle.label.specs.Labels.{labelOf}
 use Rattle.sheet.specs.declared.Drawing.{Drawing}
 use Rattle.redraw.specs.Calls.{addComponent}
-use Rattle.step.specs.Steps.{choiceOf, noTally}
+use Rattle.sheet.specs.declared.Tally.{Tally}
+use Rattle.step.specs.Steps.{choiceOf}
 
 negative : (z : ℤ) → ltZ z (pos 0) ≡ true → 8 ≡ choiceOf z
 unfolding choiceOf
@@ -62,20 +63,20 @@ module _ (z : ℤ) (f : SFits w32 z) where
     choice-is = ap natAbs is ∙ inner .right
 
 -- a component asked for by what was chosen is the one that the line's numbers ask for
-pub placed-is : (d : Drawing) {k n : ℕ} {b : Label} (kind orient x y : ℤ) (label : List ℕ)
+pub placed-is : (d : Drawing) {k n : ℕ} {b : Label} (kind orient x y : ℤ) (label : List ℕ) (t : Tally)
     → SFits w32 kind → SFits w32 orient → SFits w32 x → SFits w32 y
     → k ≡ choiceOf (bits kind) → n ≡ choiceOf (bits orient) → b ≡ labelOf label
-    → addComponent d k n (bits x) (bits y) b noTally ≡ addComponent d (choiceOf kind) (choiceOf orient) x y (labelOf label) noTally
-placed-is d {k} {n} {b} kind orient x y label fk fo fx fy ek en eb =
+    → addComponent d k n (bits x) (bits y) b t ≡ addComponent d (choiceOf kind) (choiceOf orient) x y (labelOf label) t
+placed-is d {k} {n} {b} kind orient x y label t fk fo fx fy ek en eb =
     let chosen : k ≡ choiceOf kind = ek ∙ ap choiceOf (is kind fk) in
     let turned : n ≡ choiceOf orient = en ∙ ap choiceOf (is orient fo) in
-    λ i. addComponent d (chosen i) (turned i) (is x fx i) (is y fy i) (eb i) noTally
+    λ i. addComponent d (chosen i) (turned i) (is x fx i) (is y fy i) (eb i) t
 
 -- the same of a line whose label begins at `at`
-pub line-placed : (d : Drawing) (kind orient x y : ℤ) (at : ℕ) (line : List ℕ)
+pub line-placed : (d : Drawing) (kind orient x y : ℤ) (at : ℕ) (line : List ℕ) (t : Tally)
     → SFits w32 kind → SFits w32 orient → SFits w32 x → SFits w32 y
-    → addComponent d (choiceOf (bits kind)) (choiceOf (bits orient)) (bits x) (bits y) (labelOf (take (length line - at) (drop at line))) noTally
-    ≡ addComponent d (choiceOf kind) (choiceOf orient) x y (labelOf (drop at line)) noTally
-line-placed d kind orient x y at line fk fo fx fy =
+    → addComponent d (choiceOf (bits kind)) (choiceOf (bits orient)) (bits x) (bits y) (labelOf (take (length line - at) (drop at line))) t
+    ≡ addComponent d (choiceOf kind) (choiceOf orient) x y (labelOf (drop at line)) t
+line-placed d kind orient x y at line t fk fo fx fy =
     let rest : take (length line - at) (drop at line) ≡ drop at line = take-all (length line - at) (drop at line) (omega (arith, length-drop at line)) in
-    placed-is d kind orient x y (drop at line) fk fo fx fy refl refl (ap labelOf rest)
+    placed-is d kind orient x y (drop at line) t fk fo fx fy refl refl (ap labelOf rest)

@@ -1,48 +1,63 @@
--- A line leaves a lawful drawing lawful, and what the code answers to a command is what the line's step answers.
-use mathlib.Core.Path.{_≡_, sym, subst}
-use mathlib.Core.Bool.{true, false}
+-- A line leaves a lawful drawing lawful: `edit-lawful`, `step-lawful`. And `n` is answered 0 on a lawful drawing alone: `nets-lawful`.
+use mathlib.Core.Path.{_≡_, refl, sym, ap, subst, _∙_}
+use native.Mathlib.Omega.{arith}
+use lib.Dec.{T, eqb→eq}
+use mathlib.Core.Bool.{Bool, true, false}
 use mathlib.Core.Logic.{⊎-elim}
 use mathlib.Core.List.{List}
 use Prim.Native.Nat.{ℕ}
-use Rattle.lists.proofs.Tests.{decide, eqb-reads}
+use Rattle.lists.proofs.Tests.{decide, choose, eqb-reads}
 use Rattle.sheet.specs.declared.Drawing.{Drawing}
+use Rattle.sheet.specs.declared.Tally.{Tally}
+use Rattle.sheet.specs.Drawings.{Sized}
 use Rattle.sheet.specs.Rules.{Lawful}
+use Rattle.rules.specs.Check.{checkOf, lawful}
+use Rattle.rules.proofs.Check.{check-lawful}
 use Rattle.redraw.specs.declared.Edited.{Edited}
+use Rattle.redraw.specs.Calls.{refusedUnless}
 use Rattle.redraw.proofs.Laws.{Accepted, wire-accepted, component-accepted, delete-accepted, rotate-accepted, mirror-accepted}
+use Rattle.schematic.specs.Calls.{checked}
+use Rattle.schematic.proofs.Checking.{lawful-passes}
 use Rattle.script.specs.declared.Command.{Command}
 use Rattle.script.specs.declared.Command.the-variants.{Horizontal, Vertical, Place, Delete, Turn, Mirror, Nets, Unreadable}
 use Rattle.script.specs.Reading.{commandOf}
-use Rattle.step.specs.declared.Stepped.{Stepped}
-use Rattle.step.specs.Steps.{plainly, noTally, does, stepOf, Answers}
+use Rattle.step.specs.Steps.{editOf, unedited, After, told, stepOf}
 use Rattle.step.proofs.Kept.{Kept, wire-kept, component-kept, delete-kept, rotate-kept, mirror-kept}
 
-module _ {d : Drawing} (l : Lawful d) where
-  stays : {e : Edited} → Accepted e → Kept d e → Lawful (e .drawing)
-  stays {e} a k = ⊎-elim (λ z. a z .lawful) (λ f. subst Lawful (sym (k .drawing f)) l) (decide (eqb-reads (e .reply) 0))
+module _ {d : Drawing} (l : Lawful d) (t : Tally) where
+  stays : {e : Edited} → Accepted e → Kept d e → Lawful (checked d t e .drawing)
+  stays {e} a k = subst (λ (x : Edited). Lawful (x .drawing)) (lawful-passes l t e)
+      (⊎-elim (λ z. a z .lawful) (λ f. subst Lawful (sym (k .drawing f)) l) (decide (eqb-reads (e .reply) 0)))
 
-  does-lawful : (line : List ℕ) (k : Command) → Lawful (does d line k .drawing)
-  unfolding does
-  does-lawful line (Horizontal y x1 x2) = stays (wire-accepted l noTally _ _ _ _) (wire-kept d noTally _ _ _ _)
-  does-lawful line (Vertical x y1 y2) = stays (wire-accepted l noTally _ _ _ _) (wire-kept d noTally _ _ _ _)
-  does-lawful line (Place kind orient x y at) = stays (component-accepted l noTally _ _ _ _ _) (component-kept d noTally _ _ _ _ _)
-  does-lawful line (Delete x y size) = stays (delete-accepted l noTally _ _ _) (delete-kept d noTally _ _ _)
-  does-lawful line (Turn x y size) = stays (rotate-accepted l noTally _ _ _) (rotate-kept d noTally _ _ _)
-  does-lawful line (Mirror x y size) = stays (mirror-accepted l noTally _ _ _) (mirror-kept d noTally _ _ _)
-  does-lawful line Nets = l
-  does-lawful line Unreadable = l
+  pub edit-lawful : (line : List ℕ) (k : Command) → Lawful (editOf d t line k .drawing)
+  unfolding editOf
+  edit-lawful line (Horizontal y x1 x2) = stays (wire-accepted l t _ _ _ _) (wire-kept d t _ _ _ _)
+  edit-lawful line (Vertical x y1 y2) = stays (wire-accepted l t _ _ _ _) (wire-kept d t _ _ _ _)
+  edit-lawful line (Place kind orient x y at) = stays (component-accepted l t _ _ _ _ _) (component-kept d t _ _ _ _ _)
+  edit-lawful line (Delete x y size) = stays (delete-accepted l t _ _ _) (delete-kept d t _ _ _)
+  edit-lawful line (Turn x y size) = stays (rotate-accepted l t _ _ _) (rotate-kept d t _ _ _)
+  edit-lawful line (Mirror x y size) = stays (mirror-accepted l t _ _ _) (mirror-kept d t _ _ _)
+  edit-lawful line Nets = subst (λ (x : Edited). Lawful (x .drawing)) (lawful-passes l t (unedited d t)) l
+  edit-lawful line Unreadable = l
 
-  pub step-lawful : (line : List ℕ) → Lawful (stepOf d line .drawing)
+  told-same : (k : Command) (e : Edited) → told k e .outcome ≡ e
+  told-same (Horizontal y x1 x2) e = refl
+  told-same (Vertical x y1 y2) e = refl
+  told-same (Place kind orient x y at) e = refl
+  told-same (Delete x y size) e = refl
+  told-same (Turn x y size) e = refl
+  told-same (Mirror x y size) e = refl
+  told-same Nets e = choose (eqb-reads (e .reply) 0) (λ (a : After). a .outcome ≡ e) (λ _. refl) (λ _. refl)
+  told-same Unreadable e = refl
+
+  pub step-lawful : (line : List ℕ) → Lawful (stepOf d t line .outcome .drawing)
   unfolding stepOf
-  step-lawful line = does-lawful line (commandOf line)
+  step-lawful line = subst (λ (e : Edited). Lawful (e .drawing)) (sym (told-same (commandOf line) (editOf d t line (commandOf line)))) (edit-lawful line (commandOf line))
 
-  pub by-command : (line : List ℕ) {old new : List ℕ} {k : Command} {r : Stepped} → commandOf line ≡ k → Answers (does d line k) old new r
-      → Answers (stepOf d line) old new r × Lawful (r .drawing)
-  unfolding stepOf
-  by-command line {old} {new} {k} {r} e a = (
-    subst (λ k. Answers (does d line k) old new r) (sym e) a,
-    subst Lawful (sym (a .drawing)) (does-lawful line k),
-  )
-
--- what is told of an edit is told of the same edit under another name
-pub plain-as : {old new : List ℕ} {r : Stepped} {e e′ : Edited} → e ≡ e′ → Answers (plainly e) old new r → Answers (plainly e′) old new r
-plain-as {old} {new} {r} = subst (λ x. Answers (plainly x) old new r)
+pub nets-lawful : (d : Drawing) (t : Tally) (line : List ℕ) {k : Command} {e : Edited} → Sized d → e ≡ editOf d t line k → k ≡ Nets → e .reply ≡ 0 → Lawful (e .drawing)
+unfolding editOf checked
+nets-lawful d t line {k} {e} z is q = subst (λ (x : Edited). x .reply ≡ 0 → Lawful (x .drawing)) (sym (is ∙ ap (editOf d t line) q)) (go (lawful d) refl)
+  where
+    go : (b : Bool) → lawful d ≡ b → refusedUnless b 9 d t (unedited d t) .reply ≡ 0 → Lawful (refusedUnless b 9 d t (unedited d t) .drawing)
+    go true p r = check-lawful d z .0 (eqb→eq (checkOf d .rule) 0 (subst T (sym p) tt))
+    go false p r = absurd (omega arith)

@@ -5,5 +5,6 @@ pub mod Emptiness
 pub mod Telling
 pub mod Kept
 pub mod Lawfulness
-mod Threes
+mod Asking
+mod Commands
 pub mod Fitting

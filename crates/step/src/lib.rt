@@ -1,4 +1,5 @@
-// One line of a script: what it does to a drawing that is known to be lawful, and what it prints.
+// One line of a script: what it does to a lent drawing, and what it prints into a lent buffer.
+mod replies;
 
 ghost use mathlib.Core.Path.{_≡_};
 ghost use Prim.Native.Nat.{_≤_};
@@ -6,14 +7,14 @@ ghost use lib.ListN.{length};
 ghost use Rattle.sheet.specs.Drawings.{emptySheet};
 ghost use Rattle.sheet.specs.Drawings;
 ghost use Rattle.sheet.specs.Rules.{Lawful};
-ghost use Rattle.text.specs.Text.{Put};
 ghost use Rattle.redraw.specs.Calls.{addComponent};
 ghost use Rattle.label.specs.Labels.{labelOf};
-ghost use Rattle.step.specs.Steps.{answered, counted, plainly, countedly, listedly, noTally, choiceOf, stepOf, Answers};
+ghost use Rattle.script.specs.Reading.{commandOf};
+ghost use Rattle.step.specs.Steps.{choiceOf, editOf, stepOf, inRoom, Answers};
+ghost use Rattle.step.specs.Telling.{isReadable, Steps};
 use joints::drawn;
 use label::label_of;
-use netlist::loose_on;
-use netlist::write_list_on;
+use lawful::check;
 use parts::no_parts;
 use redraw::Edited;
 use redraw::component::add_component_on;
@@ -22,29 +23,16 @@ use redraw::pointer::mirror_on;
 use redraw::pointer::rotate_on;
 use redraw::refused;
 use redraw::wire::add_wire_on;
+pub use replies::Stepped;
+use replies::tell;
 use script::Command;
 use script::read_line;
 use sheet::Drawing;
 use sheet::Tally;
-use text::put_byte;
-use text::put_bytes;
-use text::put_decimal;
 use wires::no_wires;
 
-// The drawing after a line, and how many bytes of the lent buffer the line printed.
-pub struct Stepped {
-    pub drawing: Drawing,
-    pub length: usize,
-}
-
-// The drawing, and how many bytes of a line that goes on are held.
-pub struct Held {
-    pub drawing: Drawing,
-    pub count: usize,
-}
-
-// No line prints the tally.
-const NO_TALLY: Tally = Tally {
+// For callers that ask for no tally: no line prints it.
+pub const NO_TALLY: Tally = Tally {
     wires: 0,
     joints: 0,
     components: 0,
@@ -73,98 +61,78 @@ fn choice(z: i32) -> u8
     z as u8
 }
 
-// `A <reply>`
-fn put_answer(out: &mut [u8], reply: u8) -> usize
-    ensures { λ r. ⌜ Put (now (out .entry)) 0 (answered reply) (now (out .exit)) r × (r ≤ 8192) ⌝ }
-{
-    let p = put_bytes(out, 0, b"A ");
-    let p = put_decimal(out, p, reply as u32);
-    put_byte(out, p, b'\n')
-}
-
-// `A <reply> <hit> <lost>`
-fn put_counted(out: &mut [u8], reply: u8, hit: u32, lost: u32) -> usize
-    ensures { λ r. ⌜ Put (now (out .entry)) 0 (counted reply hit lost) (now (out .exit)) r × (r ≤ 8192) ⌝ }
-{
-    let p = put_bytes(out, 0, b"A ");
-    let p = put_decimal(out, p, reply as u32);
-    let p = put_byte(out, p, b' ');
-    let p = put_decimal(out, p, hit);
-    let p = put_byte(out, p, b' ');
-    let p = put_decimal(out, p, lost);
-    put_byte(out, p, b'\n')
-}
-
-// An edit that tells its reply alone.
-fn tell(e: Edited, out: &mut [u8]) -> Stepped
-    requires { ⌜ 8192 ≤ length (now out) ⌝ }
-    ensures { λ r. ⌜ Answers (plainly e) (now (out .entry)) (now (out .exit)) r ⌝ }
-{
-    let length = put_answer(out, e.reply);
-    let drawing = e.drawing;
-    Stepped { drawing, length }
-}
-
-// An edit that tells its reply and how many contacts were hit and lost.
-fn tell_counts(e: Edited, out: &mut [u8]) -> Stepped
-    requires { ⌜ 8192 ≤ length (now out) ⌝ }
-    ensures { λ r. ⌜ Answers (countedly e) (now (out .entry)) (now (out .exit)) r ⌝ }
-{
-    let length = put_counted(out, e.reply, e.hit, e.lost);
-    let drawing = e.drawing;
-    Stepped { drawing, length }
-}
-
-// The list, and then `E <loose>`.
-fn tell_list(d: Drawing, out: &mut [u8]) -> Stepped
-    requires { ⌜ 8192 ≤ length (now out) ⌝ ∗ ⌜ Lawful d ⌝ }
-    ensures { λ r. ⌜ Answers (listedly d) (now (out .entry)) (now (out .exit)) r ⌝ }
-{
-    let l = write_list_on(d, out);
-    let p = put_bytes(out, l.length, b"E ");
-    let p = put_decimal(out, p, loose_on(d));
-    let length = put_byte(out, p, b'\n');
-    Stepped { drawing: d, length }
-}
-
 // A component, by the numbers of its line.
-fn place(d: Drawing, kind: i32, orient: i32, x: i32, y: i32, label: &[u8]) -> Edited
+fn place(d: Drawing, kind: i32, orient: i32, x: i32, y: i32, label: &[u8], t: Tally) -> Edited
     requires { ⌜ Lawful d ⌝ }
-    ensures { λ r. ⌜ r ≡ addComponent d (choiceOf kind) (choiceOf orient) x y (labelOf (now (label .entry))) noTally ⌝ }
+    ensures { λ r. ⌜ r ≡ addComponent d (choiceOf kind) (choiceOf orient) x y (labelOf (now (label .entry))) t ⌝ }
 {
-    add_component_on(
-        d,
-        choice(kind),
-        choice(orient),
-        x,
-        y,
-        label_of(label),
-        NO_TALLY,
-    )
+    add_component_on(d, choice(kind), choice(orient), x, y, label_of(label), t)
 }
 
-// What a line does and prints. 8,192 bytes always suffice: a list has at most 7,936. Two wrong answers that this rules out:
-// acknowledging an edit that is not made, and hit and lost behind `A 10` (must-fail/ has more).
-pub fn step(d: Drawing, line: &[u8], out: &mut [u8]) -> Stepped
-    requires { ⌜ 8192 ≤ length (now out) ⌝ ∗ ⌜ Lawful d ⌝ }
-    ensures { λ r. ⌜ Answers (stepOf d (now (line .entry))) (now (out .entry)) (now (out .exit)) r × Lawful (r .drawing) ⌝ }
+// The edit that a line asks for, of a drawing known to be lawful; the command is the line's. `n` edits nothing.
+fn edit_on(d: Drawing, line: &[u8], command: Command, t: Tally) -> Edited
+    requires { ⌜ Lawful d ⌝ ∗ ⌜ command ≡ commandOf (now line) ⌝ }
+    ensures { λ r. ⌜ r ≡ editOf d t (now (line .entry)) command ⌝ }
 {
-    match read_line(line) {
-        Command::Horizontal { y, x1, x2 } => {
-            tell(add_wire_on(d, false, y, x1, x2, NO_TALLY), out)
-        }
-        Command::Vertical { x, y1, y2 } => tell(add_wire_on(d, true, x, y1, y2, NO_TALLY), out),
+    match command {
+        Command::Horizontal { y, x1, x2 } => add_wire_on(d, false, y, x1, x2, t),
+        Command::Vertical { x, y1, y2 } => add_wire_on(d, true, x, y1, y2, t),
         Command::Place {
             kind,
             orient,
             x,
             y,
             label,
-        } => tell(place(d, kind, orient, x, y, &line[label..]), out),
-        Command::Delete { x, y, size } => tell(delete_on(d, x, y, size, NO_TALLY), out),
-        Command::Turn { x, y, size } => tell_counts(rotate_on(d, x, y, size, NO_TALLY), out),
-        Command::Mirror { x, y, size } => tell_counts(mirror_on(d, x, y, size, NO_TALLY), out),
-        Command::Nets => tell_list(d, out),
-        Command::Unreadable => tell(refused(10, d, NO_TALLY), out),
+        } => place(d, kind, orient, x, y, &line[label..], t),
+        Command::Delete { x, y, size } => delete_on(d, x, y, size, t),
+        Command::Turn { x, y, size } => rotate_on(d, x, y, size, t),
+        Command::Mirror { x, y, size } => mirror_on(d, x, y, size, t),
+        Command::Nets => refused(0, d, t),
+        Command::Unreadable => refused(10, d, t),
     }
+}
+
+// Whether a line was read.
+fn readable(command: Command) -> bool
+    ensures { λ r. ⌜ r ≡ isReadable command ⌝ }
+{
+    match command {
+        Command::Unreadable => false,
+        _ => true,
+    }
+}
+
+// The edit that a line asks for, of any drawing: 10, then 9, then as above.
+fn edit(d: Drawing, line: &[u8], command: Command, t: Tally) -> Edited
+    requires { ⌜ command ≡ commandOf (now line) ⌝ }
+    ensures { λ r. ⌜ r ≡ editOf d t (now (line .entry)) command ⌝ }
+{
+    if readable(command) {
+        let k = check(d);
+        if k.rule != 0 {
+            return refused(9, d, t);
+        }
+        return edit_on(d, line, command, t);
+    }
+    refused(10, d, t)
+}
+
+// What a line does to a drawing known to be lawful, and what it prints. 8,192 bytes always suffice: a list has at most 7,936.
+pub fn step_on(d: Drawing, line: &[u8], t: Tally, out: &mut [u8]) -> Stepped
+    requires { ⌜ Lawful d ⌝ }
+    ensures { λ r. ⌜ Steps d t (now (line .entry)) (now (out .entry)) (now (out .exit)) r ⌝ }
+{
+    let command = read_line(line);
+    let e = edit_on(d, line, command, t);
+    tell(e, command, out)
+}
+
+// A script line of a lent drawing: 10, 9, then as the edit that it asks for, for `n` 8 last. Two wrong answers that this rules out:
+// 9 told of an unreadable line, and an edit acknowledged that is not made (must-fail/ has more).
+pub fn step(d: Drawing, line: &[u8], t: Tally, out: &mut [u8]) -> Stepped
+    ensures { λ r. ⌜ Answers (inRoom (length (now (out .entry))) (stepOf d t (now (line .entry)))) (now (out .entry)) (now (out .exit)) r ⌝ }
+{
+    let command = read_line(line);
+    let e = edit(d, line, command, t);
+    tell(e, command, out)
 }

@@ -21,7 +21,7 @@ returns : tie.Need-returns
 returns c =
     let b = c .before in
     let s = b .before .before .before .before in
-    c .add-component-on .ensures ∙ placed-is _ _ _ _ _ _ (s .fits .kind) (s .fits .orient) (s .fits .x) (s .fits .y)
+    c .add-component-on .ensures ∙ placed-is _ _ _ _ _ _ _ (s .fits .kind) (s .fits .orient) (s .fits .x) (s .fits .y)
     (b .before .before .choice .ensures) (b .before .choice2 .ensures) (b .label-of .ensures)
 
 pub place-spec : {M : Type 1} → statement M

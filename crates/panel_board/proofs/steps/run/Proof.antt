@@ -7,10 +7,10 @@ use Rattle.panel_board.proofs.steps.run.Statement.{statement}
 use Rattle.panel_board.proofs.steps.run.Tie as tie
 
 abbrev Inv-loop : tie.InvT-loop
-Inv-loop text e₀ at₀ e at = at ≤ length text
+Inv-loop text drawing₀ tally₀ at₀ drawing tally at = at ≤ length text
 
 abbrev μ-loop : tie.MeasureT-loop
-μ-loop text e₀ at₀ e at = length text - at
+μ-loop text drawing₀ tally₀ at₀ drawing tally at = length text - at
 
 slice-aggregate-put : tie.Need-slice-aggregate-put Inv-loop μ-loop
 slice-aggregate-put c = search needs
@@ -18,26 +18,23 @@ slice-aggregate-put c = search needs
 put-requires : tie.Need-put-requires Inv-loop μ-loop
 put-requires c κs = search needs
 
-refused-requires : tie.Need-refused-requires Inv-loop μ-loop
-refused-requires c κs = search needs
-
 loop-holds : tie.Need-loop-holds Inv-loop μ-loop
 loop-holds c = omega arith
 
 line-end-requires : tie.Need-line-end-requires Inv-loop μ-loop
 line-end-requires c κs = search needs
 
-sub-step : tie.Need-sub-step Inv-loop μ-loop
-sub-step c = omega arith
+sub-answer : tie.Need-sub-answer Inv-loop μ-loop
+sub-answer c = omega arith
 
-part-step-start : tie.Need-part-step-start Inv-loop μ-loop
-part-step-start c = omega arith
+part-answer-start : tie.Need-part-answer-start Inv-loop μ-loop
+part-answer-start c = omega arith
 
-part-step-end : tie.Need-part-step-end Inv-loop μ-loop
-part-step-end c = omega arith
+part-answer-end : tie.Need-part-answer-end Inv-loop μ-loop
+part-answer-end c = omega arith
 
-step-requires : tie.Need-step-requires Inv-loop μ-loop
-step-requires c κs = search needs
+answer-requires : tie.Need-answer-requires Inv-loop μ-loop
+answer-requires c κs = search needs
 
 returns : tie.Need-returns Inv-loop μ-loop
 returns c = search needs
@@ -62,13 +59,12 @@ run-spec =
     μ-loop
     slice-aggregate-put
     put-requires
-    refused-requires
     loop-holds
     line-end-requires
-    sub-step
-    part-step-start
-    part-step-end
-    step-requires
+    sub-answer
+    part-answer-start
+    part-answer-end
+    answer-requires
     returns
     add-at
     loop-less

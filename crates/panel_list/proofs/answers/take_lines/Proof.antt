@@ -5,7 +5,7 @@ use native.Mathlib.Omega.{arith}
 use lib.ListN.{length}
 use lib.Seq.{length-take-le}
 use Rattle.lines.proofs.Running.{line-there, line-less}
-use Rattle.panel_list.specs.Printing.{after, andThen}
+use Rattle.step.specs.Scripts.{progress, andThen}
 use Rattle.panel_list.proofs.Going.{Going, start, full, at-end, on-line, on-more}
 use borrow.Author.Needs.{needs}
 use Rattle.panel_list.proofs.answers.take_lines.Statement.{statement}

@@ -1,6 +1,6 @@
 -- `panel_rows::asks_list` meets its contract: by what `read_line` returns.
 use mathlib.Core.Path.{sym, ap, _∙_}
-use Rattle.panel_rows.specs.Printing.{asksList}
+use Rattle.step.specs.Telling.{asksList}
 use Rattle.panel_rows.proofs.Behind.{asks-none}
 use borrow.Author.Needs.{needs}
 use Rattle.panel_rows.proofs.rows.asks_list.Statement.{statement}

@@ -4,8 +4,8 @@ use Rattle.text.proofs.Decimals.{length-number}
 use Rattle.text.proofs.Puts.{put-then}
 use Rattle.step.specs.Steps.{counted}
 use borrow.Author.Needs.{needs}
-use Rattle.step.proofs.put_counted.Statement.{statement}
-use Rattle.step.proofs.put_counted.Tie as tie
+use Rattle.step.proofs.replies.put_counted.Statement.{statement}
+use Rattle.step.proofs.replies.put_counted.Tie as tie
 
 slice-aggregate-put-bytes : tie.Need-slice-aggregate-put-bytes
 slice-aggregate-put-bytes c = search needs

@@ -1,0 +1,149 @@
+// What is printed for a line: its answer line, which is written if the lent buffer has room for it, and for `n` the list before it.
+ghost use mathlib.Core.Path.{_≡_};
+ghost use Prim.Native.Nat.{_≤_};
+ghost use lib.ListN.{length};
+ghost use Rattle.sheet.specs.Rules.{Lawful};
+ghost use Rattle.text.specs.Text.{Put};
+ghost use Rattle.script.specs.declared.Command.the-variants.{Nets};
+ghost use Rattle.step.specs.Steps;
+ghost use Rattle.step.specs.Steps.{answered, counted, looseLine, plainly, countedly, listedly};
+ghost use Rattle.step.specs.Telling.{Fitted, Tells, toldWith};
+use netlist::loose_on;
+use netlist::write_list_on;
+use redraw::Edited;
+use redraw::refused;
+use script::Command;
+use sheet::Drawing;
+use sheet::Tally;
+use text::put_byte;
+use text::put_bytes;
+use text::put_decimal;
+
+// What came of a line, as an edit tells it, and how many bytes of the lent buffer are what it printed.
+pub struct Stepped {
+    pub reply: u8,
+    pub tally: Tally,
+    pub drawing: Drawing,
+    pub hit: u32,
+    pub lost: u32,
+    pub length: usize,
+}
+
+// `A <reply>`
+fn put_answer(line: &mut [u8], reply: u8) -> usize
+    ensures { λ r. ⌜ Put (now (line .entry)) 0 (answered reply) (now (line .exit)) r × (r ≤ 40) ⌝ }
+{
+    let p = put_bytes(line, 0, b"A ");
+    let p = put_decimal(line, p, reply as u32);
+    put_byte(line, p, b'\n')
+}
+
+// `A <reply> <hit> <lost>`
+fn put_counted(line: &mut [u8], reply: u8, hit: u32, lost: u32) -> usize
+    ensures { λ r. ⌜ Put (now (line .entry)) 0 (counted reply hit lost) (now (line .exit)) r × (r ≤ 40) ⌝ }
+{
+    let p = put_bytes(line, 0, b"A ");
+    let p = put_decimal(line, p, reply as u32);
+    let p = put_byte(line, p, b' ');
+    let p = put_decimal(line, p, hit);
+    let p = put_byte(line, p, b' ');
+    let p = put_decimal(line, p, lost);
+    put_byte(line, p, b'\n')
+}
+
+// `E <loose>`
+fn put_loose(line: &mut [u8], loose: u32) -> usize
+    ensures { λ r. ⌜ Put (now (line .entry)) 0 (looseLine loose) (now (line .exit)) r × (r ≤ 40) ⌝ }
+{
+    let p = put_bytes(line, 0, b"E ");
+    let p = put_decimal(line, p, loose);
+    put_byte(line, p, b'\n')
+}
+
+// The bytes of a line behind the first `at` of a buffer, if they fit there, and the index behind them; or nothing, and `at`.
+fn put_fitting(out: &mut [u8], at: usize, line: &[u8]) -> usize
+    requires { ⌜ at ≤ 7936 ⌝ ∗ ⌜ at ≤ length (now out) ⌝ ∗ ⌜ length (now line) ≤ 40 ⌝ }
+    ensures { λ r. ⌜ Fitted (now (out .entry)) at (now (line .entry)) (now (out .exit)) r ⌝ }
+{
+    if line.len() <= out.len() - at {
+        return put_bytes(out, at, line);
+    }
+    at
+}
+
+// An edit's answer, with so many bytes printed.
+fn told(e: Edited, length: usize) -> Stepped
+    ensures { λ r. ⌜ r ≡ toldWith e length ⌝ }
+{
+    let tally = e.tally;
+    let drawing = e.drawing;
+    Stepped {
+        reply: e.reply,
+        tally,
+        drawing,
+        hit: e.hit,
+        lost: e.lost,
+        length,
+    }
+}
+
+// An edit that tells its reply alone.
+fn tell_plain(e: Edited, out: &mut [u8]) -> Stepped
+    ensures { λ r. ⌜ Tells (plainly e) (now (out .entry)) (now (out .exit)) r ⌝ }
+{
+    let mut line = [0u8; 40];
+    let n = put_answer(&mut line, e.reply);
+    let length = put_fitting(out, 0, &line[..n]);
+    told(e, length)
+}
+
+// An edit that tells its reply and how many contacts were hit and lost.
+fn tell_counts(e: Edited, out: &mut [u8]) -> Stepped
+    ensures { λ r. ⌜ Tells (countedly e) (now (out .entry)) (now (out .exit)) r ⌝ }
+{
+    let mut line = [0u8; 40];
+    let n = put_counted(&mut line, e.reply, e.hit, e.lost);
+    let length = put_fitting(out, 0, &line[..n]);
+    told(e, length)
+}
+
+// The list, and then `E <loose>`, of a drawing that was not refused; 8 where the list is longer than the buffer.
+fn tell_list(e: Edited, out: &mut [u8]) -> Stepped
+    requires { ⌜ (e .reply ≡ 0 → Lawful (e .drawing)) ⌝ }
+    ensures { λ r. ⌜ Tells (listedly e) (now (out .entry)) (now (out .exit)) r ⌝ }
+{
+    if e.reply != 0 {
+        return told(e, 0);
+    }
+    let d = e.drawing;
+    let l = write_list_on(d, out);
+    if l.reply != 0 {
+        let t = e.tally;
+        return told(refused(8, d, t), 0);
+    }
+    let mut line = [0u8; 40];
+    let n = put_loose(&mut line, loose_on(d));
+    let length = put_fitting(out, l.length, &line[..n]);
+    told(e, length)
+}
+
+// What a command prints, of the edit that came of it.
+pub(crate) fn tell(e: Edited, command: Command, out: &mut [u8]) -> Stepped
+    requires { ⌜ (command ≡ Nets → e .reply ≡ 0 → Lawful (e .drawing)) ⌝ }
+    ensures { λ r. ⌜ Tells (Steps.told command e) (now (out .entry)) (now (out .exit)) r ⌝ }
+{
+    match command {
+        Command::Turn {
+            x: _,
+            y: _,
+            size: _,
+        } => tell_counts(e, out),
+        Command::Mirror {
+            x: _,
+            y: _,
+            size: _,
+        } => tell_counts(e, out),
+        Command::Nets => tell_list(e, out),
+        _ => tell_plain(e, out),
+    }
+}

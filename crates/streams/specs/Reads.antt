@@ -1,0 +1,9 @@
+-- What a read brings: no more bytes than the lent buffer has, and at least one. Which bytes these are, no contract can say.
+use Prim.Native.Nat.{ℕ, _≤_}
+use Rattle.streams.specs.declared.Got.{Got}
+use Rattle.streams.specs.declared.Got.the-variants.{Bytes, End, Failed}
+
+abbrev pub Brings : ℕ → Got → Type 0
+Brings room (Bytes n) = (1 ≤ n) × (n ≤ room)
+Brings room End = Unit
+Brings room Failed = Unit
