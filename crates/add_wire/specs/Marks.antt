@@ -1,4 +1,4 @@
--- "Cut the run at each joint still standing": joints on the new wire as marks along it, and wires cut at the marks.
+-- Below the calls: "Cut the run at each joint still standing": joints on the new wire as marks along it, and wires cut at the marks.
 use Prim.Native.Nat.{ℕ, zero, suc, _≤_}
 use mathlib.Core.Path.{_≡_}
 use mathlib.Core.List.{List, [], _∷_, _++_}

@@ -1,4 +1,4 @@
--- "Pointer size: 0 to 1,000.": what `edge` finds of one, as a flag and the number.
+-- Below the calls: "Pointer size: 0 to 1,000.": what `edge` finds of one, as a flag and the number.
 use mathlib.Core.Bool.{true, false}
 use Rattle.edge.specs.Coordinates.{found}
 use Rattle.edge.specs.declared.Found.{Found}

@@ -1,4 +1,4 @@
--- The edits of document 01 ("Edits") by number, as scripts of a timing hold them.
+-- Beside the calls: the edits of document 01 ("Edits") by number, as scripts of a timing hold them.
 use Prim.Native.Nat.{ℕ, _/_, _%_, _-_}
 use mathlib.Core.Bool.{true, false, cond}
 use mathlib.Core.List.{_∷_}

@@ -1,4 +1,5 @@
--- Operations on the tables of a drawing ("Numbers and rows"), by number; each answers how many rows come out, or a number of one of them.
+-- Beside the calls: operations on the tables of a drawing ("Numbers and rows"), by number; each answers how many rows come out, or a number
+-- of one of them.
 use Prim.Native.Nat.{ℕ, _%_}
 use mathlib.Core.Bool.{false, cond, not}
 use mathlib.Core.List.{List, []}

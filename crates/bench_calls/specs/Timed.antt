@@ -1,4 +1,4 @@
--- What a timing answers: a drawing is built by edits ("Edits"), and then one call is made so many times on it.
+-- Beside the calls: what a timing answers: a drawing is built by edits ("Edits"), and then one call is made so many times on it.
 use Prim.Native.Nat.{ℕ, zero, suc, _+_, _*_, _%_}
 use mathlib.Core.Bool.{cond}
 use mathlib.Core.List.{List}

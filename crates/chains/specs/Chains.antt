@@ -1,5 +1,5 @@
--- Numbers found by key: points, for "exactly two wire ends in line, without a pad" and for "each point with a wire end or pad once". Those of
--- one key are linked, each to the last one before it. A link is a place plus one, and 0 is the end.
+-- Below the calls: numbers found by key: points, for "exactly two wire ends in line, without a pad" and for "each point with a wire end or
+-- pad once". Those of one key are linked, each to the last one before it. A link is a place plus one, and 0 is the end.
 use Prim.Native.Nat.{ℕ, suc, _≤_, _<_}
 use mathlib.Core.List.{List}
 use mathlib.Core.Path.{_≡_}

@@ -1,4 +1,4 @@
--- What the functions on an index of a line tell, as the text from that index on.
+-- Below the calls: what the functions on an index of a line tell, as the text from that index on.
 use mathlib.Core.Bool.{Bool}
 use mathlib.Core.List.{List}
 use Prim.Native.Nat.{ℕ}

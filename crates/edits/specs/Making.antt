@@ -1,4 +1,4 @@
--- What an edit of a sheet makes of its tables.
+-- Below the calls, but for `roomy` and `quiet`: what an edit of a sheet makes of its tables.
 use Prim.Native.Nat.{ℕ, _≤_}
 use mathlib.Core.Bool.{Bool, true, false, _&&_, cond}
 use mathlib.Core.List.{List, []}

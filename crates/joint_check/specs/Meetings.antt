@@ -1,4 +1,4 @@
--- The points of joint rows, met by wire ends and pads: what is counted at each row.
+-- Below the calls: the points of joint rows, met by wire ends and pads: what is counted at each row.
 use Prim.Native.Nat.{ℕ, _<_}
 use mathlib.Core.List.{List}
 use mathlib.Core.Logic.{_≢_}

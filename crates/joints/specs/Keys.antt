@@ -1,4 +1,4 @@
--- Points as keys: y times 65,536 and x, so that keys rise as points do by (y, x).
+-- Below the calls: points as keys: y times 65,536 and x, so that keys rise as points do by (y, x).
 use Prim.Native.Nat.{ℕ, _/_, _%_}
 use mathlib.Core.List.{List, map}
 use mathlib.Core.Path.{_≡_}

@@ -1,4 +1,4 @@
--- The tables of a drawing without its joints, and a drawing whose joints are those of its wires and components.
+-- Below the calls: the tables of a drawing without its joints, and a drawing whose joints are those of its wires and components.
 use Prim.Native.Nat.{_≤_}
 use mathlib.Core.Path.{_≡_}
 use Rattle.sheet.specs.declared.Wires.{Wires}

@@ -1,4 +1,4 @@
--- What the fast check looks at, and what it tells.
+-- Below the calls: what the fast check looks at, and what it tells.
 use Prim.Native.Nat.{ℕ, _+_, _<_}
 use mathlib.Core.Bool.{Bool, _&&_, _||_, not, cond, Bool·beq}
 use mathlib.Core.List.{List, [], _∷_}

@@ -1,4 +1,4 @@
--- A tally to lend: "The caller lends a tally that is brought up to date in its place".
+-- Beside the calls: a tally to lend: "The caller lends a tally that is brought up to date in its place".
 use Rattle.sheet.specs.declared.Tally.{Tally}
 
 -- one that no drawing of fewer than nine rows has

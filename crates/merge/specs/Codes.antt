@@ -1,5 +1,5 @@
--- Wire ends and pads as numbers: whether a point holds "exactly two wire ends in line, without a pad" is then whether a number is among
--- others.
+-- Below the calls: wire ends and pads as numbers: whether a point holds "exactly two wire ends in line, without a pad" is then whether a
+-- number is among others.
 use Prim.Native.Nat.{ℕ, _+_, _*_, _≤_, _<_}
 use mathlib.Core.Path.{_≡_}
 use mathlib.Core.List.{List, [], _∷_, _++_, map}

@@ -1,5 +1,5 @@
--- Joints found by key ("components and joints by (y, x)"): rows of joints as rising keys, and tables that hold points by the numbers of
--- their joints.
+-- Below the calls: joints found by key ("components and joints by (y, x)"): rows of joints as rising keys, and tables that hold points by
+-- the numbers of their joints.
 use Prim.Native.Nat.{ℕ, suc, _<_, _≤_}
 use mathlib.Core.List.{List, map}
 use mathlib.Core.Path.{_≡_}

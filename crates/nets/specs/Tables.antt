@@ -1,5 +1,5 @@
--- The tables of the code: wires and pads by the numbers of their joints, and the aliases of net numbers: "following aliases from a net to
--- the smallest number".
+-- Below the calls: the tables of the code: wires and pads by the numbers of their joints, and the aliases of net numbers: "following
+-- aliases from a net to the smallest number".
 use mathlib.Core.Path.{_≡_}
 use mathlib.Core.List.{List, [], _∷_, _++_, map}
 use Prim.Native.Nat.{ℕ, zero, suc, _<_, _≤_, min, max}

@@ -1,4 +1,4 @@
--- The rows (a, b) and (c, d) of the eight orientations: "(a, b, c, d) takes (x, y) to (ax+by, cx+dy)."
+-- For proofs alone: the rows (a, b) and (c, d) of the eight orientations: "(a, b, c, d) takes (x, y) to (ax+by, cx+dy)."
 use lib.IntN.{ℤ, pos, negsuc}
 
 -- one number is 0, the other 1 or -1

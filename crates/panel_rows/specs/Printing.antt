@@ -1,4 +1,4 @@
--- What a line prints: what it prints in panel_list, and behind an edit the rows of the drawing, ended by a line `.`.
+-- Beside the calls: what a line prints: what it prints in panel_list, and behind an edit the rows of the drawing, ended by a line `.`.
 use mathlib.Core.Path.{_≡_}
 use mathlib.Core.Bool.{Bool, false, cond}
 use mathlib.Core.List.{List, [], _∷_, _++_}

@@ -1,4 +1,4 @@
--- Tables of components: one that holds a list, and one whose components all meet the limits.
+-- Below the calls: tables of components: one that holds a list, and one whose components all meet the limits.
 use Prim.Native.Nat.{_≤_}
 use mathlib.Core.Bool.{Bool, _&&_, _||_}
 use mathlib.Core.List.{List}

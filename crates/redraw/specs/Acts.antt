@@ -1,4 +1,4 @@
--- The three edits about a pointer, as one: "Delete.", "Turn right, mirror."
+-- Below the calls: the three edits about a pointer, as one: "Delete.", "Turn right, mirror."
 use Prim.Native.Nat.{ℕ}
 use Rattle.symbol.specs.declared.Point.{Point}
 use Rattle.sheet.specs.Drawings.{Sheet}

@@ -1,4 +1,4 @@
--- The tests that the plain check makes row by row.
+-- Below the calls: the tests that the plain check makes row by row.
 use mathlib.Core.Bool.{Bool, _&&_, _||_, not, Bool·beq}
 use mathlib.Core.List.{List}
 use Prim.Native.Nat.{_≤_}

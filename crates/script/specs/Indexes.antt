@@ -1,4 +1,4 @@
--- What the functions on an index of a line tell ("Single spaces; numbers are .."), as the text from that index on.
+-- Below the calls: what the functions on an index of a line tell ("Single spaces; numbers are .."), as the text from that index on.
 use mathlib.Core.Bool.{Bool, false, cond}
 use mathlib.Core.List.{List, [], _∷_}
 use Prim.Native.Nat.{ℕ, _-_}

@@ -1,5 +1,5 @@
--- The rules in the form that the edits' laws use, on rows in order. `Rules` words them as document 01 does ("A drawing is lawful when");
--- that both say the same is proved.
+-- Below the calls, but for `Fits`: the rules in the form that the edits' laws use, on rows in order. `Rules` words them as document 01 does
+-- ("A drawing is lawful when"); that both say the same is proved.
 use Prim.Native.Nat.{_≤_, _<_}
 use mathlib.Core.Bool.{Bool, not}
 use mathlib.Core.List.{List}

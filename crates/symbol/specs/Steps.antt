@@ -1,4 +1,4 @@
--- What the functions below the calls ask and return: "an array of point structs by value, mapped through orientation and position". The
+-- Below the calls: what its functions ask and return: "an array of point structs by value, mapped through orientation and position". The
 -- code's table of pads holds each number of a symbol as 200 more, so that none is negative.
 use Prim.Native.Nat.{ℕ, zero, suc, _+_, _-_, _≤_}
 use mathlib.Core.Bool.{Bool, cond}

@@ -1,4 +1,5 @@
--- Tables of wires and of points, and what it means that one holds a list or has no room for it ("would hold over 512 wires").
+-- Below the calls: tables of wires and of points, and what it means that one holds a list or has no room for it ("would hold over 512
+-- wires").
 use Prim.Native.Nat.{_≤_}
 use mathlib.Core.Path.{_≡_}
 use mathlib.Core.List.{List, []}
