@@ -7,7 +7,7 @@ pub use counts::Counts;
 use crate::drawing::{perform, run, Form};
 use crate::generate::{bytes_of, script, Script};
 use crate::minimise::minimise;
-use crate::netlist::{compare_nets, Agreement};
+use crate::netlist::{compare_netlist, Agreement};
 use crate::original::Original;
 use crate::program::Program;
 use crate::script::{read_line, Command};
@@ -90,7 +90,7 @@ pub fn in_three_orders(script: &[Vec<u8>], form: Form, counts: &mut Counts) -> R
         same(&first, &second, form).map_err(|what| here("reverse", what))?;
         same(&first, &third, form).map_err(|what| here("shuffled", what))?;
         if command == Command::List {
-            originals.iter().try_for_each(|original| check_nets(original, counts))?;
+            originals.iter().try_for_each(|original| check_netlist(original, counts))?;
         }
         counts.note(line, &first, originals[0].sizes());
         printed.extend(first);
@@ -99,11 +99,10 @@ pub fn in_three_orders(script: &[Vec<u8>], form: Form, counts: &mut Counts) -> R
     Ok((kept, printed))
 }
 
-fn check_nets(original: &Original, counts: &mut Counts) -> Result<(), String> {
-    match compare_nets(&original.state) {
-        Agreement::Same => counts.nets_same += 1,
-        Agreement::Parted => counts.nets_parted += 1,
-        Agreement::Wrong => return Err("the Rust joins what document 01 parts, or parts without forgetting".into()),
+fn check_netlist(original: &Original, counts: &mut Counts) -> Result<(), String> {
+    match compare_netlist(&original.state).map_err(|fault| format!("the Rust's own netlist: {fault:?}"))? {
+        Agreement::Same => counts.netlists_same += 1,
+        Agreement::Parted => counts.netlists_parted += 1,
     }
     Ok(())
 }

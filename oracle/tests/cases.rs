@@ -1,7 +1,7 @@
 //! The recorded cases in which the Rust and document 01 differ.
 
 use oracle::drawing::Drawing;
-use oracle::netlist::{compare_nets, print_netlist, Agreement};
+use oracle::netlist::{compare_netlist, print_netlist, Agreement};
 use oracle::original::Original;
 use oracle::script::{lines, read_line, Command};
 use rstar::Order;
@@ -33,8 +33,8 @@ fn the_rust_forgets_a_link() {
     let oldest_first = drawn(script, Order::Insertion);
     assert_eq!(text(oldest_first.list()), section(case, "document 01"));
     assert_eq!(text(print_netlist(&oldest_first.state)), section(case, "the Rust, insertion order"));
-    assert_eq!(compare_nets(&oldest_first.state), Agreement::Parted);
+    assert_eq!(compare_netlist(&oldest_first.state), Ok(Agreement::Parted));
     let newest_first = drawn(script, Order::Reverse);
     assert_eq!(text(print_netlist(&newest_first.state)), section(case, "the Rust, reverse order"));
-    assert_eq!(compare_nets(&newest_first.state), Agreement::Same);
+    assert_eq!(compare_netlist(&newest_first.state), Ok(Agreement::Same));
 }

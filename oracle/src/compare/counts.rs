@@ -8,9 +8,9 @@ pub struct Counts {
     pub scripts: u64,
     /// Turns left out because tree order decides them.
     pub skipped: u64,
-    /// Lists of the Rust with document 01's nets, and lists in which the Rust forgot a link that shows.
-    pub nets_same: u64,
-    pub nets_parted: u64,
+    /// Netlists of the Rust with document 01's lines and nets, and those in which the Rust forgot a link that shows.
+    pub netlists_same: u64,
+    pub netlists_parted: u64,
     lists: u64,
     /// By the line's letter and its reply.
     replies: BTreeMap<(char, String), u64>,
@@ -69,8 +69,8 @@ impl fmt::Display for Counts {
         writeln!(f, "at most {} wires and {} components", self.most_wires, self.most_components)?;
         write!(
             f,
-            "lists of the Rust, all orders: {} with the same nets, {} with a forgotten link",
-            self.nets_same, self.nets_parted
+            "netlists of the Rust, all orders: {} with the same lines and nets, {} with a forgotten link",
+            self.netlists_same, self.netlists_parted
         )
     }
 }

@@ -8,7 +8,7 @@ pub mod net {
     }
 
     /// A coil on the net `coil` works the switches named `a` and `b`.
-    #[derive(Debug)]
+    #[derive(Debug, Clone)]
     pub struct Relay {
         pub coil: String,
         pub a: String,
@@ -16,7 +16,7 @@ pub mod net {
     }
 
     /// A switch between the nets `l` and `r`.
-    #[derive(Debug)]
+    #[derive(Debug, Clone)]
     pub struct Switch {
         pub state: String,
         pub l: String,
