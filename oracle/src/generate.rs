@@ -2,6 +2,7 @@
 
 mod board;
 mod junk;
+mod writing;
 
 use random::Random;
 
@@ -29,6 +30,7 @@ pub fn script(seed: u64) -> Script {
             small_board(&mut script, 250, &mut random);
         }
     }
+    writing::rewrite_numbers(&mut script, seed);
     script
 }
 
@@ -39,6 +41,7 @@ pub fn sample(seed: u64, lines: usize) -> Script {
     while script.len() < lines {
         small_board(&mut script, 50, &mut random);
     }
+    writing::rewrite_numbers(&mut script, seed);
     script
 }
 
@@ -46,6 +49,7 @@ pub fn sample(seed: u64, lines: usize) -> Script {
 pub fn full_sample(seed: u64) -> Script {
     let mut script = Vec::new();
     full_board(&mut script, &mut Random(seed));
+    writing::rewrite_numbers(&mut script, seed);
     script
 }
 
