@@ -23,8 +23,8 @@ oracle netlist [ORDER]     at each n the Rust's own netlist
 oracle model               panel_rows by the model instead of the Rust
 oracle generate SEED       the script of a seed
 oracle filter              the script on standard input without the turns that tree order decides
-oracle sample rows DIR     writes DIR/stdin, a script of 2,000 lines, and DIR/stdout, what panel_rows must print for it
-oracle sample list DIR     the same for panel_list, with full tables
+oracle sample rows DIR     writes DIR/stdin, a script by lot, and DIR/stdout, what panel_rows must print for it
+oracle sample list DIR     the same for panel_list, with the drop point, chosen lines and full tables before it
 oracle symbols             turns, boxes and pads, in the form of panel_symbols
 oracle shapes              the bits of all shapes, in the form of panel_shapes
 oracle constants           the bits of the constants built with a square root

@@ -108,7 +108,7 @@ fn check_netlist(original: &Original, counts: &mut Counts) -> Result<(), String>
 }
 
 /// Nothing, or the first line that differs, and to which line of the script it belongs.
-fn same(expected: &[u8], found: &[u8], form: Form) -> Result<(), String> {
+pub fn same(expected: &[u8], found: &[u8], form: Form) -> Result<(), String> {
     if expected == found {
         return Ok(());
     }

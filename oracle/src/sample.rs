@@ -1,25 +1,60 @@
-//! A recorded run for a program's files `stdin` and `stdout`: a seeded script, and what the Rust prints for it.
+//! A recorded run for a program's files `stdin` and `stdout`: a script, and what the Rust prints for it.
 
-use crate::compare::{in_three_orders, Counts};
-use crate::drawing::Form;
-use crate::generate::{bytes_of, full_sample, sample};
+mod limits;
+
+use crate::compare::{in_three_orders, same, Counts};
+use crate::drawing::{run, Form};
+use crate::generate::{bytes_of, full_sample, sample, Script};
+use crate::original::Original;
+use crate::script::lines;
+use limits::{beyond_128_components, edits_at_the_limits};
+use random::Random;
+use rstar::Order;
 use std::path::Path;
 
 const SEED: u64 = 1941;
 const LINES: usize = 2000;
 
+/// The example of docs/SCRIPT.md, and a delete that meets all of it.
+const DROP_POINT: &[u8] = include_bytes!("../../docs/examples/drop-point.txt");
+const DROP_POINT_CLEARED: &[u8] = b"d 300 600 1000\n";
+/// Document 01's examples, each refusal, lines that are read to the letter, turns and merges. Leaves nothing drawn.
+const CHOSEN: &[u8] = include_bytes!("../samples/chosen.txt");
+
 /// The script and its output. The last line, `n`, goes without its newline and counts all the same.
 pub fn record(form: Form) -> Result<(Vec<u8>, Vec<u8>), String> {
-    let mut script = sample(SEED, LINES);
-    // Where no rows are printed, full tables cost little room.
-    if form == Form::List {
-        script.extend(full_sample(SEED));
-    }
+    let mut script = match form {
+        Form::Rows => [by_lot(sample(SEED, LINES))?, split(&beyond_128_components())].concat(),
+        // Where no rows are printed, full tables cost little room.
+        Form::List => {
+            let chosen = [DROP_POINT, DROP_POINT_CLEARED, CHOSEN, &edits_at_the_limits()].concat();
+            [split(&chosen), by_lot([sample(SEED, LINES), full_sample(SEED)].concat())?].concat()
+        }
+    };
     script.push(b"n".to_vec());
-    let (kept, printed) = in_three_orders(&script, form, &mut Counts::default())?;
-    let mut bytes = bytes_of(&kept);
+    let mut bytes = bytes_of(&script);
     bytes.pop();
+    let printed = in_every_order(&bytes, form)?;
     Ok((bytes, printed))
+}
+
+/// A script on an empty drawing without the turns that tree order decides.
+fn by_lot(script: Script) -> Result<Script, String> {
+    in_three_orders(&script, Form::List, &mut Counts::default()).map(|(kept, _)| kept)
+}
+
+fn split(script: &[u8]) -> Script {
+    lines(script).map(<[u8]>::to_vec).collect()
+}
+
+/// What the Rust prints, which must be the same in every tree order.
+fn in_every_order(script: &[u8], form: Form) -> Result<Vec<u8>, String> {
+    let printed = |order| run(&mut Original::new(order), script, form);
+    let first = printed(Order::Insertion);
+    for order in [Order::Reverse, Order::Shuffled(Random(SEED)), Order::Middle] {
+        same(&first, &printed(order), form).map_err(|what| format!("insertion and {order:?} order: {what}"))?;
+    }
+    Ok(first)
 }
 
 /// Writes both files into a folder.

@@ -1,12 +1,10 @@
-//! The comparison itself: what it copies, records and finds.
+//! The comparison itself: what it copies and finds.
 
 use oracle::compare::{compare, judge, Counts};
 use oracle::drawing::{run, Drawing, Form};
 use oracle::generate::script;
-use oracle::model::Model;
 use oracle::original::{rows_of, Original};
 use oracle::program::Program;
-use oracle::sample::record;
 use oracle::script::Edit;
 use rstar::Order;
 use serde::RoundTrip;
@@ -45,14 +43,6 @@ fn a_program_that_prints_something_else_is_found() {
 fn a_seed_gives_one_script() {
     assert_eq!(script(7), script(7));
     assert_ne!(script(7), script(8));
-}
-
-#[test]
-fn samples_hold_for_the_model() {
-    for form in [Form::Rows, Form::List] {
-        let (script, printed) = record(form).unwrap();
-        assert_eq!(run(&mut Model::default(), &script, form), printed);
-    }
 }
 
 #[test]
