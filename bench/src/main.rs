@@ -104,7 +104,7 @@ fn time_edits(table: &mut Table, name: &str, size: usize, board: &Board, ours: &
         }
         on.push(ours.time(Call::EditOn, asked));
         checked.push(ours.time(Call::Edit, asked));
-        theirs.push(theirs::time_edit(&board.state, edit));
+        theirs.push(theirs::time_edit(&board.state, edit, ours.enough()));
     }
     table.row(&format!("{name}, drawing known to be lawful"), size, &on, Some(&theirs));
     table.row(&format!("{name}, public call"), size, &checked, Some(&theirs));
@@ -142,10 +142,10 @@ fn time_looks(table: &mut Table, size: usize, board: &Board, ours: &Ours) {
     let [plain, fast] = time_checks(ours);
     table.row("check, plain", size, &[plain], None);
     table.row("check", size, &[fast], None);
-    let list = [theirs::time_look(&board.state, |state| state.build_netlist())];
+    let list = [theirs::time_look(&board.state, ours.enough(), |state| state.build_netlist())];
     table.row("list, drawing known to be lawful", size, &time(Call::ListOn), Some(&list));
     table.row("list, public call", size, &time(Call::List), Some(&list));
-    let loose = [theirs::time_look(&board.state, theirs::loose)];
+    let loose = [theirs::time_look(&board.state, ours.enough(), theirs::loose)];
     table.row("loose, drawing known to be lawful", size, &time(Call::LooseOn), Some(&loose));
     table.row("loose, public call", size, &time(Call::Loose), Some(&loose));
 }

@@ -3,6 +3,7 @@
 
 use crate::clock::timed;
 use crate::script::Numbered;
+use batches::{all_made, time_of_one};
 
 extern "C" {
     #[allow(clippy::too_many_arguments)]
@@ -66,8 +67,8 @@ pub struct Ours {
     building: f64,
 }
 
-/// How often a time is taken; the least counts.
-const ROUNDS: usize = 5;
+/// How often building the drawing is timed; the least counts.
+const BUILDINGS: usize = 10;
 
 impl Ours {
     pub fn new(script: &[Numbered]) -> Self {
@@ -75,7 +76,7 @@ impl Ours {
         let numbers = script.iter().flat_map(|edit| edit.numbers).collect();
         let mut ours = Ours { whats, numbers, building: 0.0 };
         ours.building =
-            (0..2 * ROUNDS).map(|_| ours.run(Call::Loose, Numbered::NONE, 0).0).fold(f64::INFINITY, f64::min);
+            (0..BUILDINGS).map(|_| ours.run(Call::Loose, Numbered::NONE, 0).0).fold(f64::INFINITY, f64::min);
         ours
     }
 
@@ -106,28 +107,27 @@ impl Ours {
         self.run(call, edit, 1).1
     }
 
-    /// Nanoseconds of one call. So many are made that they take twice as long as the drawing takes to build, at least
-    /// 10 ms.
-    pub fn time(&self, call: Call, edit: Numbered) -> f64 {
-        let enough = (2.0 * self.building).max(1e7);
-        let mut times = 8;
-        let mut taken = self.run(call, edit, times).0 - self.building;
-        while taken < enough {
-            times *= 2;
-            taken = self.run(call, edit, times).0 - self.building;
-        }
-        let least = (1..ROUNDS).map(|_| self.run(call, edit, times).0 - self.building).fold(taken, f64::min);
-        least / f64::from(times)
+    /// How many nanoseconds a batch of calls lasts at least, ours and the Rust's: twice as long as the drawing takes to
+    /// build, which is taken off ours, and 10 ms.
+    pub fn enough(&self) -> f64 {
+        (2.0 * self.building).max(1e7)
     }
 
-    /// Twice as many calls take about twice as long: the compiler has left out none.
+    /// Nanoseconds of so many calls.
+    fn taken(&self, call: Call, edit: Numbered, times: u32) -> f64 {
+        self.run(call, edit, times).0 - self.building
+    }
+
+    /// Nanoseconds of one call.
+    pub fn time(&self, call: Call, edit: Numbered) -> f64 {
+        time_of_one(self.enough(), |times| self.taken(call, edit, times))
+    }
+
     pub fn assert_all_made(&self, call: Call, edit: Numbered) {
-        let mut times = 64;
-        while self.run(call, edit, times).0 < (4.0 * self.building).max(2e7) {
-            times *= 2;
-        }
-        let least = |times| (0..ROUNDS).map(|_| self.run(call, edit, times).0).fold(f64::INFINITY, f64::min);
-        let (once, twice) = (least(times), least(2 * times));
-        assert!(twice > 1.4 * once, "{call:?}: {times} calls take {once} ns, twice as many {twice} ns");
+        let say = |what| eprintln!("{call:?}: {what}");
+        assert!(
+            all_made(self.enough(), |times| self.taken(call, edit, times), say),
+            "{call:?}: some of the calls are left out"
+        );
     }
 }

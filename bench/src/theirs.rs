@@ -1,16 +1,13 @@
 //! The Rust, timed: `State` as published, over lists that stand in for its trees.
 
-use crate::clock::timed;
+use crate::clock::{timed, timed_nothing};
+use batches::{time_of_one, FEWEST};
 use oracle::orientation::numbered;
 use oracle::original::{everywhere, kind_numbered};
 use oracle::schematic::{Component, State, WireH, WireV};
 use oracle::script::{Edit, Pointer};
 use serde::RoundTrip;
 use std::hint::black_box;
-
-/// So many copies are edited one behind the other under one look at the clock.
-const BATCH: usize = 8;
-const ROUNDS: usize = 60;
 
 /// The Rust's own call and nothing else.
 fn edit(state: &mut State, edit: Prepared) {
@@ -61,26 +58,29 @@ fn copy(state: &State) -> State {
     copy
 }
 
-/// Nanoseconds of one edit.
-pub fn time_edit(state: &State, asked: &Edit) -> f64 {
+/// Nanoseconds of one edit, by batches that last at least so long.
+pub fn time_edit(state: &State, asked: &Edit, enough: f64) -> f64 {
     let asked = prepared(asked);
-    let batch = || {
-        let mut copies: Vec<_> = (0..BATCH).map(|_| (copy(state), asked.clone())).collect();
-        let (time, ()) = timed(|| {
-            for (state, asked) in copies.iter_mut() {
-                edit(state, std::mem::replace(asked, Prepared::Delete(Pointer { x: 0, y: 0, size: 0 })));
-            }
-        });
-        black_box(copies);
-        time / BATCH as f64
-    };
-    (0..ROUNDS).map(|_| batch()).fold(f64::INFINITY, f64::min)
+    let looking = timed_nothing();
+    time_of_one(enough, |calls| (0..calls / FEWEST).map(|_| edit_copies(state, &asked) - looking).sum())
 }
 
-/// Nanoseconds of one look at the state.
-pub fn time_look<T>(state: &State, look: impl Fn(&State) -> T) -> f64 {
-    let batch = || timed(|| (0..BATCH).for_each(|_| drop(black_box(look(black_box(state)))))).0 / BATCH as f64;
-    (0..ROUNDS).map(|_| batch()).fold(f64::INFINITY, f64::min)
+/// Nanoseconds of the edit on a few copies, one behind the other. The clock stands still while they are made, and they are
+/// few, so that they stay in the processor's caches as our one drawing does.
+fn edit_copies(state: &State, asked: &Prepared) -> f64 {
+    let mut copies: Vec<_> = (0..FEWEST).map(|_| (copy(state), asked.clone())).collect();
+    let (time, ()) = timed(|| {
+        for (state, asked) in copies.iter_mut() {
+            edit(state, std::mem::replace(asked, Prepared::Delete(Pointer { x: 0, y: 0, size: 0 })));
+        }
+    });
+    black_box(copies);
+    time
+}
+
+/// Nanoseconds of one look at the state, by batches that last at least so long.
+pub fn time_look<T>(state: &State, enough: f64, look: impl Fn(&State) -> T) -> f64 {
+    time_of_one(enough, |calls| timed(|| (0..calls).for_each(|_| drop(black_box(look(black_box(state)))))).0)
 }
 
 /// Points with the count 1; the Rust has no such call.
