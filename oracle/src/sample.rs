@@ -65,3 +65,21 @@ pub fn write_sample(form: Form, folder: &Path) -> Result<(), String> {
     }
     Ok(())
 }
+
+#[cfg(test)]
+mod tests {
+    use super::*;
+    use crate::drawing::Drawing;
+    use crate::model::Model;
+    use crate::rows::Rows;
+
+    #[test]
+    fn each_chosen_part_leaves_nothing_drawn() {
+        let drop_point = [DROP_POINT, DROP_POINT_CLEARED].concat();
+        for part in [&drop_point[..], CHOSEN, &edits_at_the_limits(), &beyond_128_components()] {
+            let mut drawing = Model::default();
+            run(&mut drawing, part, Form::List);
+            assert_eq!(drawing.rows(), Rows::default());
+        }
+    }
+}

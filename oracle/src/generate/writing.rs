@@ -4,7 +4,7 @@ use super::Script;
 use crate::script::{read_line, Command, LONGEST_LINE};
 use random::Random;
 
-/// So many of a hundred readable lines have such a number.
+/// So many of a hundred readable lines may get such a number.
 const SHARE: usize = 10;
 const MOST_DIGITS: usize = 6;
 
