@@ -1,4 +1,4 @@
--- Below the calls: an answer line in a buffer, and that 8,192 bytes hold all that a line prints.
+-- Below the calls, but for `asksList`: an answer line in a buffer, and that 8,192 bytes hold all that a line prints.
 use mathlib.Core.Path.{_≡_}
 use mathlib.Core.Bool.{Bool, true, false, cond}
 use mathlib.Core.List.{List}

@@ -1,4 +1,4 @@
--- What a read brings: no more bytes than the lent buffer has, and at least one. Which bytes these are, no contract can say.
+-- Below the calls: what a read brings. No more bytes than the lent buffer has, and at least one. Which bytes these are, no contract can say.
 use Prim.Native.Nat.{ℕ, _≤_}
 use Rattle.streams.specs.declared.Got.{Got}
 use Rattle.streams.specs.declared.Got.the-variants.{Bytes, End, Failed}
