@@ -1,4 +1,6 @@
-// The public edits with a tally that the caller lends: it is brought up to date in its place after reply 0, and untouched otherwise.
+// The public edits with a tally that the caller lends: it is brought up to date in its place after reply 0, and untouched otherwise. One
+// proof serves the five. Wrong answers that they rule out: coordinates in another order (arguments_swapped), the lent tally as it was
+// after reply 0 (never_written), and zeros in it after a refusal (written_after_a_refusal).
 ghost use mathlib.Core.Path.{_≡_};
 ghost use Rattle.redraw.specs.Calls;
 ghost use Rattle.schematic.specs.Calls.{checked};
@@ -8,8 +10,7 @@ use redraw::Edited;
 use sheet::Drawing;
 use sheet::Tally;
 
-// "Wire.", as `schematic::add_wire`; the tally "is brought up to date in its place". Two wrong answers that this
-// rules out: a wire from its end to its start (wire_backward), and the lent tally as it was after reply 0 (never_written).
+// "Wire.", as `schematic::add_wire`; the tally "is brought up to date in its place".
 pub fn add_wire(
     d: Drawing,
     vertical: bool,
@@ -27,8 +28,7 @@ pub fn add_wire(
     e
 }
 
-// "Place.", as `schematic::add_component`; the tally "is brought up to date in its place". Two wrong answers that this
-// rules out: the lent tally as it was after reply 0 (never_written), and the lent tally written after a refusal (written_after_a_refusal).
+// "Place.", as `schematic::add_component`; the tally "is brought up to date in its place".
 pub fn add_component(
     d: Drawing,
     kind: u8,
@@ -47,8 +47,7 @@ pub fn add_component(
     e
 }
 
-// "Delete.", as `schematic::delete_at_point`; the tally "is brought up to date in its place". Two wrong answers that this
-// rules out: the lent tally as it was after reply 0 (never_written), and the lent tally written after a refusal (written_after_a_refusal).
+// "Delete.", as `schematic::delete_at_point`; the tally "is brought up to date in its place".
 pub fn delete_at_point(d: Drawing, x: i32, y: i32, size: i32, t: &mut Tally) -> Edited
     ensures { λ r. ⌜ (r ≡ checked d (now (t .entry)) (Calls.deleteAt d x y size (now (t .entry)))) × (now (t .exit) ≡ noted (now (t .entry)) r) ⌝ }
 {
@@ -59,8 +58,7 @@ pub fn delete_at_point(d: Drawing, x: i32, y: i32, size: i32, t: &mut Tally) -> 
     e
 }
 
-// "Turn right, mirror.", as `schematic::rotate_component_at_point`; the tally "is brought up to date in its place". Two wrong answers that this
-// rules out: the lent tally as it was after reply 0 (never_written), and the lent tally written after a refusal (written_after_a_refusal).
+// "Turn right, mirror.", as `schematic::rotate_component_at_point`; the tally "is brought up to date in its place".
 pub fn rotate_component_at_point(d: Drawing, x: i32, y: i32, size: i32, t: &mut Tally) -> Edited
     ensures { λ r. ⌜ (r ≡ checked d (now (t .entry)) (Calls.rotateAt d x y size (now (t .entry)))) × (now (t .exit) ≡ noted (now (t .entry)) r) ⌝ }
 {
@@ -71,8 +69,7 @@ pub fn rotate_component_at_point(d: Drawing, x: i32, y: i32, size: i32, t: &mut 
     e
 }
 
-// "Turn right, mirror.", as `schematic::mirror_component_at_point`; the tally "is brought up to date in its place". Two wrong answers that this
-// rules out: the lent tally as it was after reply 0 (never_written), and the lent tally written after a refusal (written_after_a_refusal).
+// "Turn right, mirror.", as `schematic::mirror_component_at_point`; the tally "is brought up to date in its place".
 pub fn mirror_component_at_point(d: Drawing, x: i32, y: i32, size: i32, t: &mut Tally) -> Edited
     ensures { λ r. ⌜ (r ≡ checked d (now (t .entry)) (Calls.mirrorAt d x y size (now (t .entry)))) × (now (t .exit) ≡ noted (now (t .entry)) r) ⌝ }
 {

@@ -39,6 +39,7 @@ fn put_list(out: &mut [u8], cs: Components, numbers: [u16; 384]) -> usize
 }
 
 // The list in front of the lent buffer, if the buffer has room for it. A first run over a byte of our own tells the length.
+// Not one list for every drawing (one_fixed_list).
 pub fn write_list_on(d: Drawing, out: &mut [u8]) -> Listed
     requires { ⌜ Lawful d ⌝ }
     ensures told { λ r. ⌜ r ≡ answerOf (listOf (listsOf d)) (length (now (out .entry))) ⌝ }

@@ -53,8 +53,8 @@ fn act_on(d: Drawing, act: Act, x: i32, y: i32, size: i32, t: Tally) -> Edited
     finished(d, t, e)
 }
 
-// "Delete." Two wrong answers that this rules out: the drawing received with reply 0 (drawing_untouched), and a tally brought up to date
-// by a refusal (refusal_fills_the_tally).
+// "Delete." Two wrong answers that this rules out: the drawing received with reply 0 (drawing_untouched), and a refusal with a
+// tally of zeros (refusal_empties_the_tally).
 pub fn delete_on(d: Drawing, x: i32, y: i32, size: i32, t: Tally) -> Edited
     requires { ⌜ Lawful d ⌝ }
     ensures { λ r. ⌜ r ≡ Calls.deleteAt d x y size t ⌝ }
