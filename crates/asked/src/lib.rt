@@ -59,7 +59,8 @@ fn no_wire(reply: u8) -> AskedWire
     AskedWire { reply, wire }
 }
 
-// A wire from its coordinates: each in its range, else 1; the start not greater than the end, else 2.
+// A wire from its coordinates: each in its range, else 1; the start not greater than the end, else 2. Two wrong answers that this rules
+// out: one with an end outside (one_end_outside_taken), and one that goes backward (backward_wire_taken).
 pub fn asked_wire(vertical: bool, line: i32, start: i32, end: i32) -> AskedWire
     ensures { λ r. ⌜ r ≡ askedWire vertical line start end ⌝ }
 {
@@ -94,7 +95,8 @@ fn no_part(reply: u8) -> AskedPart
     AskedPart { reply, part }
 }
 
-// A component: a known kind and orientation, else 4; its position in its range, else 1; its label, else 5.
+// A component: a known kind and orientation, else 4; its position in its range, else 1; its label, else 5. Two wrong answers that this
+// rules out: one of a fourth kind (fourth_kind_taken), and one with a bad label (bad_label_taken).
 pub fn asked_part(kind: u8, orientation: u8, x: i32, y: i32, label: Label) -> AskedPart
     ensures { λ r. ⌜ r ≡ askedPart kind orientation x y label ⌝ }
 {
@@ -131,7 +133,8 @@ fn no_pointer(reply: u8) -> AskedPointer
     }
 }
 
-// A pointer: each coordinate in its range, else 1; its size in its range, else 3.
+// A pointer: each coordinate in its range, else 1; its size in its range, else 3. Two wrong answers that this rules out: a pointer at
+// (y, x) (pointer_swapped), and 1 for a size out of range (size_told_as_1).
 pub fn asked_pointer(x: i32, y: i32, size: i32) -> AskedPointer
     ensures { λ r. ⌜ r ≡ askedPointer x y size ⌝ }
 {

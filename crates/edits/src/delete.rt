@@ -29,7 +29,8 @@ pub(crate) fn settled(ws: Wires, cs: Components) -> Wires
     merge(ws, pads)
 }
 
-// Without the wires and components that the square about the pointer meets.
+// Without the wires and components that the square about the pointer meets. Two wrong answers that this rules out: the wires that it meets
+// stay (hit_wires_stay), and so do the components (hit_components_stay).
 pub fn delete(ws: Wires, cs: Components, p: Point, size: u16) -> Made
     requires { ⌜ Sound ws cs × Pointed p size ⌝ }
     ensures { λ r. ⌜ r ≡ made (quiet (Edits.delete p size (sheetOf ws cs))) ⌝ }

@@ -13,7 +13,8 @@ use sheet::Wire;
 use sheet::Wires;
 use wires::Grown;
 
-// The new wire among the others; one of zero length changes nothing.
+// The new wire among the others; one of zero length changes nothing. Two wrong answers that this rules out: a wire of zero length laid
+// (no_length_drawn), and every wire after the first one only acknowledged (draws_once).
 pub fn draw(ws: Wires, cs: Components, n: Wire) -> Made
     requires { ⌜ Sound ws cs × (n .end ≤ 12000) ⌝ }
     ensures { λ r. ⌜ r ≡ made (quiet (wire n (sheetOf ws cs))) ⌝ }

@@ -27,7 +27,8 @@ pub(crate) fn split_at_pads(g: Grown, c: Component) -> Grown
     split_pads(g, points, b.count)
 }
 
-// The component goes in, whether it touches another or not: who places it asks first.
+// The component goes in, whether it touches another or not: who places it asks first. Two wrong answers that this rules out: the wires
+// under its pads left whole (pads_do_not_split), and no room for the 128th (seven_one_component_early).
 pub fn place(ws: Wires, cs: Components, c: Component) -> Made
     requires { ⌜ Sound ws cs × PartFits c ⌝ }
     ensures { λ r. ⌜ r ≡ made (quiet (Edits.placeOne c (sheetOf ws cs))) ⌝ }

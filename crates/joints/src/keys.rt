@@ -14,8 +14,7 @@ use wires::Points;
 use wires::lines::high_tip;
 use wires::lines::low_tip;
 
-// The key of a point: y, then x, so that keys rise as points do. Not its mirrored point (rows_by_column), nor one key for two points
-// (keys_shared).
+// The key of a point: y, then x, so that keys rise as points do. Not that of its mirrored point (rows_by_column).
 pub fn key(p: Point) -> u32
     ensures { λ r. ⌜ spot r ≡ p ⌝ }
 {
@@ -65,7 +64,7 @@ fn end_keys(ws: Wires) -> Keys
     out
 }
 
-// The keys of all wire ends and pads.
+// The keys of all wire ends and pads. Not of the wire ends alone (pads_not_counted).
 pub fn mark_keys(ws: Wires, pads: Points) -> Keys
     requires { ⌜ (ws .count ≤ 512) × (pads .count ≤ 384) ⌝ }
     ensures { λ r. ⌜ Keyed (marks (wireRows ws) (pointRows pads)) r ⌝ }

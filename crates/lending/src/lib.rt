@@ -7,7 +7,8 @@ ghost use Rattle.lending.specs.Nines.{nines};
 use sheet::Drawing;
 use sheet::Tally;
 
-// The tally after a wire: 9 9 9 9 was lent, and stays if the wire is refused.
+// The tally after a wire: 9 9 9 9 was lent, and stays if the wire is refused. Two wrong answers that this rules out: another tally lent
+// (eights_lent), and a wire from its end to its start (wire_backward).
 pub fn tally_after_wire(d: Drawing, vertical: bool, line: i32, start: i32, end: i32) -> Tally
     ensures { λ r. ⌜ r ≡ noted nines (checked d nines (addWire d vertical line start end nines)) ⌝ }
 {

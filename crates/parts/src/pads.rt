@@ -46,7 +46,7 @@ pub fn all_pads(cs: Components) -> Points
     out
 }
 
-// How many pads a component of the kind has. Not three for a coil (coil_with_three_pads), nor two for a contact (contact_two_pads).
+// How many pads a component of the kind has. Not three for a coil and one for a contact (coil_with_three_pads).
 pub fn pads_of_kind(kind: u8) -> usize
     ensures { λ r. ⌜ (r ≡ length (padsAt kind)) × (r ≤ 3) ⌝ }
 {

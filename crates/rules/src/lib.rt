@@ -42,7 +42,8 @@ pub struct Touching {
     pub second: u16,
 }
 
-// The answer for a broken rule, or for none.
+// The answer for a broken rule, or for none. Two wrong answers that this rules out: no rule told (nothing_broken), and rows told where no
+// boxes share a point (rows_told_of_no_boxes).
 pub fn broken_rule(k: u8) -> Checked
     ensures { λ r. ⌜ r ≡ broken k ⌝ }
 {
