@@ -23,8 +23,8 @@ pub struct Edited {
     pub lost: u32,
 }
 
-// "A refused edit returns the drawing received, with hit and lost 0"; the tally keeps its old content, and is not emptied
-// (refusal_empties_the_tally).
+// "A refused edit returns the drawing received, with hit and lost 0" (not refusal_tells_a_hit); the tally keeps its old content, and is not
+// emptied (refusal_empties_the_tally).
 pub fn refused(reply: u8, d: Drawing, t: Tally) -> Edited
     ensures { λ r. ⌜ r ≡ Calls.refused reply d t ⌝ }
 {
