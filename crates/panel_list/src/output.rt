@@ -10,17 +10,11 @@ pub struct Output {
     pub failed: bool,
 }
 
-fn wide(n: u32) -> u64
-    ensures { λ r. ⌜ r ≡ n ⌝ }
-{
-    n as u64
-}
-
 // The sum with a byte more.
 fn summed(sum: u32, b: u8) -> u32
     ensures { λ r. ⌜ r ≡ nextSum sum b ⌝ }
 {
-    ((wide(sum) * 257 + b as u64 + 1) % 4294967291) as u32
+    ((sum as u64 * 257 + b as u64 + 1) % 4294967291) as u32
 }
 
 // The sum with the bytes of a block.
