@@ -1,4 +1,4 @@
--- The end of the input: `unreadable`, `answered` and `idle` for `tell`, `last-line` and `no-line` for `finish`, `printed` for `run`;
+-- The end of the input: `unreadable`, `answered` and `idle` for `tell`, `last-line` and `no-line` for `finish`, `printed` and `broken` for `run`;
 -- and `at-once`: not too many answers are printed at once.
 use mathlib.Core.Path.{_≡_, refl, sym, ap, subst, _∙_}
 use mathlib.Core.Bool.{Bool, true, false, cond}
@@ -6,6 +6,7 @@ use mathlib.Core.Logic.{⊎-elim}
 use mathlib.Core.List.{List, [], _∷_, _++_, append-nil, append-assoc}
 use Prim.Native.Nat.{ℕ, _<_, _≤_}
 use native.Mathlib.Omega.{arith}
+use lib.Dec.{T}
 use lib.ListN.{length, take, length-append}
 use lib.Seq.{take-all, length-take-le}
 use Rattle.lists.proofs.Tests.{decide, leb-reads}
@@ -19,7 +20,8 @@ use Rattle.lines.specs.Lines.{linesOf}
 use Rattle.lines.specs.Runs.{ran, joined, through, finish}
 use Rattle.lines.proofs.Runs.{in-chunks}
 use Rattle.panel_check.specs.declared.State.{State}
-use Rattle.panel_check.specs.declared.Held.{Held}
+use Rattle.panel_check.specs.declared.Taken.{Taken}
+use Rattle.panel_check.specs.declared.Waiting.{Waiting}
 use Rattle.panel_check.specs.Answers.{unreadableOf, isEnd}
 use Rattle.panel_check.specs.Telling.{Told, toldNothing, verdictOf, ended, withLine, toldAfter, concluded, answersOf}
 use Rattle.panel_check.specs.Printing.{Spilled, none, many, toldSoFar, Appended, Takes, Read, Concludes, Printed}
@@ -105,31 +107,38 @@ after-81 t l = ⊎-elim (λ (le : length l ≤ 80). ap (toldAfter t) (take-all 8
     long : 80 < length l → toldAfter t (take 81 l) ≡ toldAfter t l
     long h = let e : saidOf l ≡ Unreadable = too-long l h in after-unreadable t (take 81 l) (said-81 l ∙ e) ∙ sym (after-unreadable t l e)
 
-whole : {q : Held} {held out : List ℕ} (g : Read q held out) → finish toldAfter (ran (toldSoFar (q .run) (g .written) out) (take (q .count) held)) ≡ through toldAfter toldNothing (linesOf (joined (g .input)))
-whole g = sym (ap (finish toldAfter) (g .gives)) ∙ in-chunks toldAfter after-81 toldNothing (g .input)
+whole : {q : Taken} {held out : List ℕ} (g : Read q held out) → q .run .failed ≡ false → finish toldAfter (ran (toldSoFar (q .run) (g .written) out) (take (q .count) held)) ≡ through toldAfter toldNothing (linesOf (joined (g .input)))
+whole g f = sym (ap (finish toldAfter) (g .gives f)) ∙ in-chunks toldAfter after-81 toldNothing (g .input)
 
-pub printed : (q : Held) (held out : List ℕ) {out′ : List ℕ} {n : ℕ} → Read q held out → Concludes (λ written. finish toldAfter (ran (toldSoFar (q .run) written out) (take (q .count) held))) n out′ → Printed n out′
-unfolding answersOf
-printed q held out {out′} {n} g e = record {
-  input = g .input;
-  written = g .written ++ e .written;
-  spilled = spilled-both (g .spilled) (e .spilled);
-  within = subst (λ (x : Told). length (g .written ++ e .written) ≤ length (x .answers)) (whole g) (e .within (g .written));
-  all = subst (λ (x : Told). cond (x .stopped) [] (g .written ++ e .written) ++ take n out′ ≡ concluded x) (whole g) (e .all (g .written));
-  fits = e .fits;
-}
+module _ (q : Taken) (held out : List ℕ) (g : Read q held out) where
+  pub printed : {out′ : List ℕ} {w : Waiting} → q .run .failed ≡ false → Concludes (λ written. finish toldAfter (ran (toldSoFar (q .run) written out) (take (q .count) held))) (w .used) out′ → Printed w out′
+  unfolding answersOf
+  printed {out′} {w} f e = record {
+    input = g .input;
+    whole = λ _. record {
+      written = g .written ++ e .written;
+      spilled = spilled-both (g .spilled) (e .spilled);
+      within = subst (λ (x : Told). length (g .written ++ e .written) ≤ length (x .answers)) (whole g f) (e .within (g .written));
+      all = subst (λ (x : Told). cond (x .stopped) [] (g .written ++ e .written) ++ take (w .used) out′ ≡ concluded x) (whole g f) (e .all (g .written));
+    };
+    fits = e .fits;
+  }
 
--- where the answers are not more than 65,500 bytes, the first n bytes of out are all that is printed
-pub at-once : {n : ℕ} {out : List ℕ} (p : Printed n out) → length (through toldAfter toldNothing (linesOf (joined (p .input))) .answers) ≤ 65500 → take n out ≡ answersOf (joined (p .input))
-at-once {n} {out} p few = go (p .spilled) (p .within) (p .all)
+  -- something failed before the end
+  pub broken : Printed (record { used = 0; failed = true }) out
+  broken = record { input = g .input; whole = λ e. absurd (subst T e tt); fits = omega arith }
+
+-- where nothing failed and the answers are not more than 65,500 bytes, the bytes that wait are all that is printed
+pub at-once : {w : Waiting} {out : List ℕ} (p : Printed w out) → w .failed ≡ false → length (through toldAfter toldNothing (linesOf (joined (p .input))) .answers) ≤ 65500 → take (w .used) out ≡ answersOf (joined (p .input))
+at-once {w} {out} p f few = go (p .whole f .spilled) (p .whole f .within) (p .whole f .all)
   where
     stopped : Bool
     stopped = through toldAfter toldNothing (linesOf (joined (p .input))) .stopped
 
-    neither : (t : Bool) → cond t [] [] ++ take n out ≡ take n out
+    neither : (t : Bool) → cond t [] [] ++ take (w .used) out ≡ take (w .used) out
     neither true = refl
     neither false = refl
 
-    go : {w : List ℕ} → Spilled w → length w ≤ length (through toldAfter toldNothing (linesOf (joined (p .input))) .answers) → cond stopped [] w ++ take n out ≡ answersOf (joined (p .input)) → take n out ≡ answersOf (joined (p .input))
+    go : {v : List ℕ} → Spilled v → length v ≤ length (through toldAfter toldNothing (linesOf (joined (p .input))) .answers) → cond stopped [] v ++ take (w .used) out ≡ answersOf (joined (p .input)) → take (w .used) out ≡ answersOf (joined (p .input))
     go none le all = sym (neither stopped) ∙ all
     go (many h) le all = absurd (omega arith)

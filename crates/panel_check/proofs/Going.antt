@@ -1,7 +1,11 @@
--- For the loop that takes the lines of a chunk: `start`, `on-line`, and the two ways out, `on-more` and `at-end`.
+-- For the loop that takes the lines of a chunk: `start`, `on-line`, and the three ways out, `on-more`, `at-end` and, after a failed write,
+-- `broken`.
 use mathlib.Core.Path.{_≡_, refl, sym, ap, subst, _∙_}
+use mathlib.Core.Bool.{true}
 use mathlib.Core.List.{List, [], _++_, append-nil, append-assoc}
 use Prim.Native.Nat.{ℕ, _≤_}
+use native.Mathlib.Omega.{arith}
+use lib.Dec.{T}
 use lib.ListN.{length, take}
 use Rattle.lines.specs.declared.Cut.{Cut}
 use Rattle.lines.specs.declared.Cut.the-variants.{Line, More}
@@ -27,12 +31,15 @@ module _ (chunk held₀ : List ℕ) (begun : ℕ) (r₀ : State) (out₀ : List 
     fits = h;
   }
 
+  pub broken : {r q : State} {line out out′ : List ℕ} (held : List ℕ) → Takes r line out q out′ → q .failed ≡ true → Done r₀ chunk held₀ begun out₀ (record { run = q; count = 0 }) held out′
+  broken held t f = record { written = []; spilled = none; whole = λ e. absurd (subst T (sym f ∙ e) tt); fits = t .fits; few = omega arith }
+
   module _ {held : List ℕ} {at count : ℕ} {r : State} {out : List ℕ} (g : Going held at count r out) where
     pub at-end : length chunk ≤ at → Done r₀ chunk held₀ begun out₀ (record { run = r; count = count }) held out
     at-end h = record {
       written = g .written;
       spilled = g .spilled;
-      whole = λ before. run-at-end toldAfter chunk held₀ begun (toldSoFar r₀ before out₀) (g .running before) h .whole;
+      whole = λ _ before. run-at-end toldAfter chunk held₀ begun (toldSoFar r₀ before out₀) (g .running before) h .whole;
       fits = g .fits;
       few = g .running [] .few;
     }
@@ -52,7 +59,7 @@ module _ (chunk held₀ : List ℕ) (begun : ℕ) (r₀ : State) (out₀ : List 
       on-more {k} e = record {
         written = g .written;
         spilled = g .spilled;
-        whole = λ before. run-on-more toldAfter chunk held₀ begun (toldSoFar r₀ before out₀) (g .running before) n e .whole;
+        whole = λ _ before. run-on-more toldAfter chunk held₀ begun (toldSoFar r₀ before out₀) (g .running before) n e .whole;
         fits = g .fits;
         few = run-on-more toldAfter chunk held₀ begun (toldSoFar r₀ [] out₀) (g .running []) n e .few;
       }

@@ -83,10 +83,10 @@ module _ {r : State} {line out : List ℕ} where
   stays h e = record { written = []; spilled = none; told = λ before. rw (append-nil before, e); fits = h }
 
   module _ (going : r .stopped ≡ false) {number : ℕ} {what : Said} {t : Bool} (counted : number ≡ nextNumber (r .lines)) (reads : what ≡ saidOf line) (is : t ≡ isEnd what) where
-    pub ends : {n : ℕ} {out′ : List ℕ} {k : Sketch} → t ≡ true → Appended (r .sketch .drawing) (r .used) out n out′ → k ≡ emptySketch
-        → Takes r line out (record { sketch = k; begun = false; lines = number; stopped = false; used = n }) out′
+    pub ends : {n : ℕ} {f : Bool} {out′ : List ℕ} {k : Sketch} → t ≡ true → Appended (r .sketch .drawing) (r .used) out n out′ → k ≡ emptySketch
+        → Takes r line out (record { sketch = k; begun = false; lines = number; stopped = false; used = n; failed = f }) out′
     unfolding toldAfter
-    ends {n} {out′} {k} there a ek =
+    ends {n} {f} {out′} {k} there a ek =
         let e : isEnd (saidOf line) ≡ true = sym (is ∙ ap isEnd reads) ∙ there in
         record {
           written = a .written;
@@ -99,7 +99,7 @@ module _ {r : State} {line out : List ℕ} where
         }
 
     pub grows : {a : Added} → r .used ≤ 65536 → t ≡ false → a ≡ addedOf (r .sketch) line what
-        → Takes r line out (record { sketch = a .sketch; begun = true; lines = number; stopped = not (a .held); used = r .used }) out
+        → Takes r line out (record { sketch = a .sketch; begun = true; lines = number; stopped = not (a .held); used = r .used; failed = r .failed }) out
     unfolding toldAfter
     grows {a} h there ea =
         let e : isEnd (saidOf line) ≡ false = sym (is ∙ ap isEnd reads) ∙ there in

@@ -2,7 +2,7 @@
 -- written out and, behind them, those that wait in front of a buffer `out`: they wait for the end of the input, and are written out before
 -- it only where there is no room for more.
 use mathlib.Core.Path.{_≡_}
-use mathlib.Core.Bool.{cond}
+use mathlib.Core.Bool.{true, false, cond}
 use mathlib.Core.List.{List, [], _++_}
 use Prim.Native.Nat.{ℕ, _<_, _≤_}
 use lib.Dec.{leb}
@@ -11,7 +11,8 @@ use Rattle.sheet.specs.declared.Drawing.{Drawing}
 use Rattle.lines.specs.Runs.{ran, throughChunk, chunks, joined, through}
 use Rattle.lines.specs.Lines.{linesOf}
 use Rattle.panel_check.specs.declared.State.{State}
-use Rattle.panel_check.specs.declared.Held.{Held}
+use Rattle.panel_check.specs.declared.Taken.{Taken}
+use Rattle.panel_check.specs.declared.Waiting.{Waiting}
 use Rattle.panel_check.specs.Telling.{Told, toldNothing, verdictOf, toldAfter, concluded, answersOf}
 
 -- the bytes written out before the end: none, or more than 65,500
@@ -48,20 +49,24 @@ pub record Takes (r : State) (line out : List ℕ) (q : State) (out′ : List �
   pub told : (before : List ℕ) → toldSoFar q (before ++ written) out′ ≡ toldAfter (toldSoFar r before out) line
   pub fits : q .used ≤ 65536
 
--- the same for the lines of a chunk, behind the first `count` bytes held
-pub record Done (r : State) (chunk held : List ℕ) (count : ℕ) (out : List ℕ) (q : Held) (held′ out′ : List ℕ) : Type 0 where
+-- The same for the lines of a chunk, behind the first `count` bytes held. If a write failed, the lines behind were not taken.
+pub record Done (r : State) (chunk held : List ℕ) (count : ℕ) (out : List ℕ) (q : Taken) (held′ out′ : List ℕ) : Type 0 where
   pub written : List ℕ
   pub spilled : Spilled written
-  pub whole : (before : List ℕ) → ran (toldSoFar (q .run) (before ++ written) out′) (take (q .count) held′) ≡ throughChunk toldAfter (toldSoFar r before out) (take count held) chunk
+  pub whole : q .run .failed ≡ false → (before : List ℕ) → ran (toldSoFar (q .run) (before ++ written) out′) (take (q .count) held′) ≡ throughChunk toldAfter (toldSoFar r before out) (take count held) chunk
   pub fits : q .run .used ≤ 65536
   pub few : q .count ≤ 81
 
--- the run and the bytes held are those of some chunks, read from the start
-pub record Read (q : Held) (held out : List ℕ) : Type 0 where
+-- the state after a read that failed
+abbrev pub afterFailure : State → State
+afterFailure r = record { sketch = r .sketch; begun = r .begun; lines = r .lines; stopped = r .stopped; used = r .used; failed = true }
+
+-- the run and the bytes held are those of some chunks, read from the start, unless something failed
+pub record Read (q : Taken) (held out : List ℕ) : Type 0 where
   pub input : List (List ℕ)
   pub written : List ℕ
   pub spilled : Spilled written
-  pub gives : chunks toldAfter (ran toldNothing []) input ≡ ran (toldSoFar (q .run) written out) (take (q .count) held)
+  pub gives : q .run .failed ≡ false → chunks toldAfter (ran toldNothing []) input ≡ ran (toldSoFar (q .run) written out) (take (q .count) held)
   pub fits : q .run .used ≤ 65536
   pub few : q .count ≤ 81
 
@@ -74,12 +79,16 @@ pub record Concludes (t : List ℕ → Told) (n : ℕ) (out′ : List ℕ) : Typ
   pub all : (before : List ℕ) → cond (t before .stopped) [] (before ++ written) ++ take n out′ ≡ concluded (t before)
   pub fits : n ≤ 65536
 
--- Of some input, the first n bytes of out are the last that is printed: the whole answer, unless more than 65,500 bytes of answers were
+-- The first n bytes of out are the last that is printed of an input: the whole answer, unless more than 65,500 bytes of answers were
 -- written out before. These are in front of it; or, where a later line was unreadable, stay from before it.
-pub record Printed (n : ℕ) (out : List ℕ) : Type 0 where
-  pub input : List (List ℕ)
+pub record Answered (input : List ℕ) (n : ℕ) (out : List ℕ) : Type 0 where
   pub written : List ℕ
   pub spilled : Spilled written
-  pub within : length written ≤ length (through toldAfter toldNothing (linesOf (joined input)) .answers)
-  pub all : cond (through toldAfter toldNothing (linesOf (joined input)) .stopped) [] written ++ take n out ≡ answersOf (joined input)
-  pub fits : n ≤ 65536
+  pub within : length written ≤ length (through toldAfter toldNothing (linesOf input) .answers)
+  pub all : cond (through toldAfter toldNothing (linesOf input) .stopped) [] written ++ take n out ≡ answersOf input
+
+-- some chunks were read, and unless something failed, the bytes that wait in front of out are the last that is printed of them
+pub record Printed (w : Waiting) (out : List ℕ) : Type 0 where
+  pub input : List (List ℕ)
+  pub whole : w .failed ≡ false → Answered (joined input) (w .used) out
+  pub fits : w .used ≤ 65536

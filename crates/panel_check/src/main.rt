@@ -6,58 +6,82 @@ ghost use Prim.Native.Nat.{_≤_};
 ghost use lib.ListN.{length, take};
 ghost use Rattle.lines.specs.Runs.{ran, finish};
 ghost use Rattle.panel_check.specs.Telling.{toldAfter};
-ghost use Rattle.panel_check.specs.Printing.{keptOf, toldSoFar, Appended, Takes, Done, Read, Concludes, Printed};
+ghost use Rattle.panel_check.specs.Printing.{keptOf, toldSoFar, Appended, Takes, Done, afterFailure, Read, Concludes, Printed};
 use answers::is_end;
 use answers::next_number;
 use answers::put_checked;
 use answers::put_unreadable;
 use check_script::read_line;
 use lawful::check;
-use libc::STDIN_FILENO;
-use libc::STDOUT_FILENO;
 use lines::Cut;
 use sheet::Drawing;
 use sketch::Sketch;
 use sketch::add;
 use sketch::empty;
+use streams::Got;
+use streams::read_chunk;
+use streams::write_block;
 
 // How far the input is read: the drawing that has begun, if a line of it was read; the number of the last line, and whether it was
-// unreadable; and how many bytes of answers wait.
+// unreadable; how many bytes of answers wait; and whether a read or a write failed.
 pub struct State {
     pub sketch: Sketch,
     pub begun: bool,
     pub lines: u32,
     pub stopped: bool,
     pub used: usize,
+    pub failed: bool,
 }
 
-// A run, and how many bytes of the line that has begun are held.
-pub struct Held {
+// The state, and how many bytes of a line that goes on are held.
+pub struct Taken {
     pub run: State,
     pub count: usize,
 }
 
-// Room for an answer. Answers wait for the end of the input, as an unreadable line is told alone; where some thousands wait, they are
-// written.
-fn room(out: &[u8], used: usize) -> usize
-    requires { ⌜ used ≤ 65536 ⌝ ∗ ⌜ length (now out) ≡ 65536 ⌝ }
-    ensures { λ r. ⌜ r ≡ keptOf used ⌝ }
-{
-    if used <= 65500 {
-        return used;
-    }
-    io::write_all(STDOUT_FILENO, &out[..used]);
-    0
+// How many bytes of answers wait to be written, and whether a read or a write failed.
+pub struct Waiting {
+    pub used: usize,
+    pub failed: bool,
 }
 
-// The answer to a drawing, behind those that wait; and how many bytes wait then.
-fn answer(d: Drawing, used: usize, out: &mut [u8]) -> usize
+// Where the next answer goes, and whether a write failed.
+pub struct Room {
+    pub at: usize,
+    pub failed: bool,
+}
+
+// Room for an answer. Answers wait for the end of the input, as an unreadable line is told alone; where some thousands wait, they are
+// written.
+fn make_room(out: &[u8], used: usize) -> Room
     requires { ⌜ used ≤ 65536 ⌝ ∗ ⌜ length (now out) ≡ 65536 ⌝ }
-    ensures { λ n. ⌜ Appended d used (now (out .entry)) n (now (out .exit)) ⌝ }
+    ensures { λ r. ⌜ r .at ≡ keptOf used ⌝ }
 {
-    let at = room(out, used);
+    if used <= 65500 {
+        return Room {
+            at: used,
+            failed: false,
+        };
+    }
+    let taken = write_block(&out[..used]);
+    Room {
+        at: 0,
+        failed: !taken,
+    }
+}
+
+// The answer to a drawing, behind those that wait.
+fn answer(d: Drawing, used: usize, out: &mut [u8]) -> Waiting
+    requires { ⌜ used ≤ 65536 ⌝ ∗ ⌜ length (now out) ≡ 65536 ⌝ }
+    ensures { λ w. ⌜ Appended d used (now (out .entry)) (w .used) (now (out .exit)) ⌝ }
+{
+    let room = make_room(out, used);
     let k = check(d);
-    put_checked(out, at, k.rule, k.first, k.second)
+    let n = put_checked(out, room.at, k.rule, k.first, k.second);
+    Waiting {
+        used: n,
+        failed: room.failed,
+    }
 }
 
 // One line. Two wrong answers that this rules out: a line `.` that is not counted, and a drawing with rows of the one before.
@@ -73,14 +97,15 @@ fn take_line(r: State, line: &[u8], out: &mut [u8]) -> State
     let s = r.sketch;
     if is_end(said) {
         let d = s.drawing;
-        let used = answer(d, r.used, out);
+        let w = answer(d, r.used, out);
         let fresh = empty();
         return State {
             sketch: fresh,
             begun: false,
             lines,
             stopped: false,
-            used,
+            used: w.used,
+            failed: w.failed,
         };
     }
     let a = add(s, line, said);
@@ -91,11 +116,12 @@ fn take_line(r: State, line: &[u8], out: &mut [u8]) -> State
         lines,
         stopped: !a.held,
         used: r.used,
+        failed: r.failed,
     }
 }
 
-// All the lines that end in a chunk.
-fn take_chunk(run: State, chunk: &[u8], held: &mut [u8], begun: usize, out: &mut [u8]) -> Held
+// All the lines that end in a chunk. After a failed write none is taken.
+fn take_chunk(run: State, chunk: &[u8], held: &mut [u8], begun: usize, out: &mut [u8]) -> Taken
     requires { ⌜ run .used ≤ 65536 ⌝ ∗ ⌜ 81 ≤ length (now held) ⌝ ∗ ⌜ begun ≤ 81 ⌝ ∗ ⌜ length (now out) ≡ 65536 ⌝ }
     ensures { λ q. ⌜ Done run (now (chunk .entry)) (now (held .entry)) begun (now (out .entry)) q (now (held .exit)) (now (out .exit)) ⌝ }
 {
@@ -106,48 +132,77 @@ fn take_chunk(run: State, chunk: &[u8], held: &mut [u8], begun: usize, out: &mut
         match lines::next_line(chunk, at, held, count) {
             Cut::Line { count: n, next } => {
                 r = take_line(r, &held[..n], out);
+                if r.failed {
+                    return Taken { run: r, count: 0 };
+                }
                 count = 0;
                 at = next;
             }
             Cut::More { count: n } => {
-                return Held { run: r, count: n };
+                return Taken { run: r, count: n };
             }
         }
     }
-    Held { run: r, count }
+    Taken { run: r, count }
 }
 
-// The end of the input: a drawing that has begun is answered, or the unreadable line told alone. So many bytes are left to write.
-fn tell(r: State, out: &mut [u8]) -> usize
+// The end of the input: a drawing that has begun is answered, or the unreadable line told alone. What waits then is left to write.
+fn tell(r: State, out: &mut [u8]) -> Waiting
     requires { ⌜ r .used ≤ 65536 ⌝ ∗ ⌜ length (now out) ≡ 65536 ⌝ }
-    ensures { λ n. ⌜ Concludes (λ written. toldSoFar r written (now (out .entry))) n (now (out .exit)) ⌝ }
+    ensures { λ w. ⌜ Concludes (λ written. toldSoFar r written (now (out .entry))) (w .used) (now (out .exit)) ⌝ }
 {
     if r.stopped {
-        return put_unreadable(out, r.lines);
+        let used = put_unreadable(out, r.lines);
+        return Waiting {
+            used,
+            failed: false,
+        };
     }
     if r.begun {
         let s = r.sketch;
         let d = s.drawing;
         return answer(d, r.used, out);
     }
-    r.used
+    Waiting {
+        used: r.used,
+        failed: false,
+    }
 }
 
 // A last line without a newline, if it is not empty, and then the end.
-fn finish(r: State, held: &[u8], count: usize, out: &mut [u8]) -> usize
+fn finish(r: State, held: &[u8], count: usize, out: &mut [u8]) -> Waiting
     requires { ⌜ r .used ≤ 65536 ⌝ ∗ ⌜ count ≤ length (now held) ⌝ ∗ ⌜ length (now out) ≡ 65536 ⌝ }
-    ensures { λ n. ⌜ Concludes (λ written. finish toldAfter (ran (toldSoFar r written (now (out .entry))) (take count (now (held .entry))))) n (now (out .exit)) ⌝ }
+    ensures { λ w. ⌜ Concludes (λ written. finish toldAfter (ran (toldSoFar r written (now (out .entry))) (take count (now (held .entry))))) (w .used) (now (out .exit)) ⌝ }
 {
     if count > 0 {
         let last = take_line(r, &held[..count], out);
-        return tell(last, out);
+        let w = tell(last, out);
+        return Waiting {
+            used: w.used,
+            failed: last.failed | w.failed,
+        };
     }
     tell(r, out)
 }
 
+// The state after a read that failed.
+fn failed(r: State) -> State
+    ensures { λ q. ⌜ q ≡ afterFailure r ⌝ }
+{
+    let sketch = r.sketch;
+    State {
+        sketch,
+        begun: r.begun,
+        lines: r.lines,
+        stopped: r.stopped,
+        used: r.used,
+        failed: true,
+    }
+}
+
 // The lines of all that is read. A proved loop has to end, and nothing says that the input does: it counts its reads down, from a
 // number that no input uses up.
-fn read_lines(chunk: &mut [u8], held: &mut [u8], out: &mut [u8]) -> Held
+fn read_lines(chunk: &mut [u8], held: &mut [u8], out: &mut [u8]) -> Taken
     requires { ⌜ 81 ≤ length (now held) ⌝ ∗ ⌜ length (now out) ≡ 65536 ⌝ }
     ensures { λ q. ⌜ Read q (now (held .exit)) (now (out .exit)) ⌝ }
 {
@@ -157,37 +212,56 @@ fn read_lines(chunk: &mut [u8], held: &mut [u8], out: &mut [u8]) -> Held
         lines: 0,
         stopped: false,
         used: 0,
+        failed: false,
     };
     let mut count: usize = 0;
     let mut reads = u64::MAX;
     while reads > 0 {
         reads -= 1;
-        let got = libc::read(STDIN_FILENO, chunk);
-        let n = io::count(got, chunk);
-        if n == 0 {
-            return Held { run: r, count };
+        match read_chunk(chunk) {
+            Got::Bytes(n) => {
+                let t = take_chunk(r, &chunk[..n], held, count, out);
+                r = t.run;
+                count = t.count;
+                if r.failed {
+                    return t;
+                }
+            }
+            Got::End => {
+                return Taken { run: r, count };
+            }
+            Got::Failed => {
+                let run = failed(r);
+                return Taken { run, count };
+            }
         }
-        let h = take_chunk(r, &chunk[..n], held, count, out);
-        r = h.run;
-        count = h.count;
     }
-    Held { run: r, count }
+    Taken { run: r, count }
 }
 
-// All that is read, and how many bytes of its answers are left to write.
-fn run(chunk: &mut [u8], held: &mut [u8], out: &mut [u8]) -> usize
+// All that is read, and the answers that are left to write. After a failure none is.
+fn run(chunk: &mut [u8], held: &mut [u8], out: &mut [u8]) -> Waiting
     requires { ⌜ 81 ≤ length (now held) ⌝ ∗ ⌜ length (now out) ≡ 65536 ⌝ }
-    ensures { λ n. ⌜ Printed n (now (out .exit)) ⌝ }
+    ensures { λ w. ⌜ Printed w (now (out .exit)) ⌝ }
 {
-    let h = read_lines(chunk, held, out);
-    let r = h.run;
-    finish(r, held, h.count, out)
+    let t = read_lines(chunk, held, out);
+    let r = t.run;
+    if r.failed {
+        return Waiting {
+            used: 0,
+            failed: true,
+        };
+    }
+    finish(r, held, t.count, out)
 }
 
 fn main() {
     let mut chunk = io::large_buffer();
     let mut held = [0u8; 81];
     let mut out = io::large_buffer();
-    let n = run(&mut chunk, &mut held, &mut out);
-    io::write_all(STDOUT_FILENO, &out[..n]);
+    let w = run(&mut chunk, &mut held, &mut out);
+    if !w.failed {
+        let used = w.used;
+        write_block(&out[..used]);
+    }
 }

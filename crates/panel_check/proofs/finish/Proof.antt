@@ -10,36 +10,25 @@ use Rattle.panel_check.proofs.finish.Tie as tie
 slice-aggregate-take-line : tie.Need-slice-aggregate-take-line
 slice-aggregate-take-line c = sym (length-take-le _ _ (c .before .before .before .before .pre .1 .0))
 
-take-line-requires : tie.Need-take-line-requires
-take-line-requires c κs = search needs
-
-tell-requires : tie.Need-tell-requires
-tell-requires c κs = search needs
-
-same-length : tie.Need-same-length
-same-length c = search needs
-
 returns : tie.Need-returns
-returns c = let s = c .before .before .before .before .before .before .before .before .before .before .before .before in last-line (s .args .r) (s .args .held .now) (s .args .out .now) (s .args .count) _ _ (c .before .before .before .before .before .before .before .before .before .if1 .taken) (s .pre .1 .0) (c .before .before .before .before .before .before .take-line .ensures) (c .before .before .tell .ensures)
-
-tell-requires-2 : tie.Need-tell-requires-2
-tell-requires-2 c κs = search needs
-
-same-length-2 : tie.Need-same-length-2
-same-length-2 c = search needs
+returns c =
+    let s = c .before .before .before .before .before .before .before .before .before .before .before .before .before .before in
+    last-line (s .args .r) (s .args .held .now) (s .args .out .now) (s .args .count) _ _ (c .before .before .before .before .before .before .before .before .before .before .before .if1 .taken) (s .pre .1 .0) (c .before .before .before .before .before .before .before .before .take-line .ensures) (c .before .before .before .before .tell .ensures)
 
 returns-2 : tie.Need-returns-2
-returns-2 c = let s = c .before .before .before .before .before .before .before in no-line (s .args .r) (s .args .held .now) (s .args .out .now) (s .args .count) (omega (arith, c .before .before .before .before .if1 .left)) (c .before .before .tell2 .ensures)
+returns-2 c =
+    let s = c .before .before .before .before .before .before .before in
+    no-line (s .args .r) (s .args .held .now) (s .args .out .now) (s .args .count) (omega (arith, c .before .before .before .before .if1 .left)) (c .before .before .tell2 .ensures)
 
 pub finish-spec : {M : Type 1} → statement M
 finish-spec =
     tie.close
     (tie.spec
     slice-aggregate-take-line
-    take-line-requires
-    tell-requires
-    same-length
+    (λ c κs. search needs)
+    (λ c κs. search needs)
+    (λ c. search needs)
     returns
-    tell-requires-2
-    same-length-2
+    (λ c κs. search needs)
+    (λ c. search needs)
     returns-2)

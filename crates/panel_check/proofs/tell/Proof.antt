@@ -5,20 +5,8 @@ use borrow.Author.Needs.{needs}
 use Rattle.panel_check.proofs.tell.Statement.{statement}
 use Rattle.panel_check.proofs.tell.Tie as tie
 
-put-unreadable-requires : tie.Need-put-unreadable-requires
-put-unreadable-requires c κs = search needs
-
-same-length : tie.Need-same-length
-same-length c = search needs
-
 returns : tie.Need-returns
 returns c = let s = c .before .before .before .before .before .before in unreadable (s .args .r) (s .args .out .now) (s .pre .1) (c .before .before .before .before .if1 .taken) (c .before .before .put-unreadable .ensures)
-
-answer-requires : tie.Need-answer-requires
-answer-requires c κs = search needs
-
-same-length-2 : tie.Need-same-length-2
-same-length-2 c = search needs
 
 returns-2 : tie.Need-returns-2
 returns-2 c = let s = c .before .before .before .before .before .before .before .before .before in answered (s .args .r) (s .args .out .now) (c .before .before .before .before .before .before .before .if1 .left) (omega (arith, s .pre .0, s .pre .1)) (c .before .before .before .before .before .before .if2 .taken) (c .before .before .answer .ensures)
@@ -30,10 +18,10 @@ pub tell-spec : {M : Type 1} → statement M
 tell-spec =
     tie.close
     (tie.spec
-    put-unreadable-requires
-    same-length
+    (λ c κs. search needs)
+    (λ c. search needs)
     returns
-    answer-requires
-    same-length-2
+    (λ c κs. search needs)
+    (λ c. search needs)
     returns-2
     returns-3)
