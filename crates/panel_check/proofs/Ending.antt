@@ -1,5 +1,5 @@
--- The end of the input: `unreadable`, `answered` and `idle` for `tell`, `last-line` and `no-line` for `finish`, `printed` and `broken` for `run`;
--- and `at-once`: not too many answers are printed at once.
+-- The end of the input: `unreadable`, `answered` and `idle` for `tell`, `last-line` and `no-line` for `finish`, `printed` and `broken` for
+-- `run`; and `at-once`: not too many answers are printed at once.
 use mathlib.Core.Path.{_≡_, refl, sym, ap, subst, _∙_}
 use mathlib.Core.Bool.{Bool, true, false, cond}
 use mathlib.Core.Logic.{⊎-elim}

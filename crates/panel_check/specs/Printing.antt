@@ -1,6 +1,6 @@
 -- How the program stands to what it is to print ("The drawing check names the first broken rule"). The answers so far are those that were
 -- written out and, behind them, those that wait in front of a buffer `out`: they wait for the end of the input, and are written out before
--- it only where there is no room for more.
+-- it only where there is no room for more. Written out is what was handed to standard output, whether or not the system took it.
 use mathlib.Core.Path.{_≡_}
 use mathlib.Core.Bool.{true, false, cond}
 use mathlib.Core.List.{List, [], _++_}
@@ -79,16 +79,16 @@ pub record Concludes (t : List ℕ → Told) (n : ℕ) (out′ : List ℕ) : Typ
   pub all : (before : List ℕ) → cond (t before .stopped) [] (before ++ written) ++ take n out′ ≡ concluded (t before)
   pub fits : n ≤ 65536
 
--- The first n bytes of out are the last that is printed of an input: the whole answer, unless more than 65,500 bytes of answers were
+-- The first n bytes of out complete what is printed of an input: they are the whole answer, unless more than 65,500 bytes of answers were
 -- written out before. These are in front of it; or, where a later line was unreadable, stay from before it.
-pub record Answered (input : List ℕ) (n : ℕ) (out : List ℕ) : Type 0 where
+pub record Completes (input : List ℕ) (n : ℕ) (out : List ℕ) : Type 0 where
   pub written : List ℕ
   pub spilled : Spilled written
   pub within : length written ≤ length (through toldAfter toldNothing (linesOf input) .answers)
   pub all : cond (through toldAfter toldNothing (linesOf input) .stopped) [] written ++ take n out ≡ answersOf input
 
--- some chunks were read, and unless something failed, the bytes that wait in front of out are the last that is printed of them
+-- some chunks were read, and unless something failed, the bytes that wait in front of out complete what is printed of them
 pub record Printed (w : Waiting) (out : List ℕ) : Type 0 where
   pub input : List (List ℕ)
-  pub whole : w .failed ≡ false → Answered (joined input) (w .used) out
+  pub whole : w .failed ≡ false → Completes (joined input) (w .used) out
   pub fits : w .used ≤ 65536

@@ -120,7 +120,7 @@ fn take_line(r: State, line: &[u8], out: &mut [u8]) -> State
     }
 }
 
-// All the lines that end in a chunk. After a failed write none is taken.
+// All the lines that end in a chunk; after a failed write no more of them.
 fn take_chunk(run: State, chunk: &[u8], held: &mut [u8], begun: usize, out: &mut [u8]) -> Taken
     requires { ⌜ run .used ≤ 65536 ⌝ ∗ ⌜ 81 ≤ length (now held) ⌝ ∗ ⌜ begun ≤ 81 ⌝ ∗ ⌜ length (now out) ≡ 65536 ⌝ }
     ensures { λ q. ⌜ Done run (now (chunk .entry)) (now (held .entry)) begun (now (out .entry)) q (now (held .exit)) (now (out .exit)) ⌝ }
@@ -169,7 +169,8 @@ fn tell(r: State, out: &mut [u8]) -> Waiting
     }
 }
 
-// A last line without a newline, if it is not empty, and then the end.
+// A last line without a newline, if it is not empty, and then the end. Where that line's write fails, it ended a drawing, and `tell` writes
+// nothing more.
 fn finish(r: State, held: &[u8], count: usize, out: &mut [u8]) -> Waiting
     requires { ⌜ r .used ≤ 65536 ⌝ ∗ ⌜ count ≤ length (now held) ⌝ ∗ ⌜ length (now out) ≡ 65536 ⌝ }
     ensures { λ w. ⌜ Concludes (λ written. finish toldAfter (ran (toldSoFar r written (now (out .entry))) (take count (now (held .entry))))) (w .used) (now (out .exit)) ⌝ }
