@@ -20,7 +20,7 @@ use Rattle.lines.specs.Lines.{linesOf}
 use Rattle.lines.specs.Runs.{ran, joined, through, finish}
 use Rattle.lines.proofs.Runs.{in-chunks}
 use Rattle.panel_check.specs.declared.State.{State}
-use Rattle.panel_check.specs.declared.Taken.{Taken}
+use Rattle.panel_check.specs.declared.Carried.{Carried}
 use Rattle.panel_check.specs.declared.Waiting.{Waiting}
 use Rattle.panel_check.specs.Answers.{unreadableOf, isEnd}
 use Rattle.panel_check.specs.Telling.{Told, toldNothing, verdictOf, ended, withLine, toldAfter, concluded, answersOf}
@@ -107,10 +107,10 @@ after-81 t l = ⊎-elim (λ (le : length l ≤ 80). ap (toldAfter t) (take-all 8
     long : 80 < length l → toldAfter t (take 81 l) ≡ toldAfter t l
     long h = let e : saidOf l ≡ Unreadable = too-long l h in after-unreadable t (take 81 l) (said-81 l ∙ e) ∙ sym (after-unreadable t l e)
 
-whole : {q : Taken} {held out : List ℕ} (g : Read q held out) → q .run .failed ≡ false → finish toldAfter (ran (toldSoFar (q .run) (g .written) out) (take (q .count) held)) ≡ through toldAfter toldNothing (linesOf (joined (g .input)))
+whole : {q : Carried} {held out : List ℕ} (g : Read q held out) → q .run .failed ≡ false → finish toldAfter (ran (toldSoFar (q .run) (g .written) out) (take (q .count) held)) ≡ through toldAfter toldNothing (linesOf (joined (g .input)))
 whole g f = sym (ap (finish toldAfter) (g .gives f)) ∙ in-chunks toldAfter after-81 toldNothing (g .input)
 
-module _ (q : Taken) (held out : List ℕ) (g : Read q held out) where
+module _ (q : Carried) (held out : List ℕ) (g : Read q held out) where
   pub printed : {out′ : List ℕ} {w : Waiting} → q .run .failed ≡ false → Concludes (λ written. finish toldAfter (ran (toldSoFar (q .run) written out) (take (q .count) held))) (w .used) out′ → Printed w out′
   unfolding answersOf
   printed {out′} {w} f e = record {

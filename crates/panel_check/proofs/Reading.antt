@@ -10,7 +10,7 @@ use Rattle.sketch.specs.Sketches.{emptySketch}
 use Rattle.lines.specs.Runs.{ran, next, chunks}
 use Rattle.lines.proofs.Runs.{chunks-more}
 use Rattle.panel_check.specs.declared.State.{State}
-use Rattle.panel_check.specs.declared.Taken.{Taken}
+use Rattle.panel_check.specs.declared.Carried.{Carried}
 use Rattle.panel_check.specs.Telling.{toldNothing, toldAfter}
 use Rattle.panel_check.specs.Printing.{none, Done, afterFailure, Read}
 use Rattle.panel_check.proofs.Standing.{spilled-both}
@@ -25,7 +25,7 @@ nothing held out e = record {
   few = omega arith;
 }
 
-pub more : {p q : Taken} {chunk held held′ out out′ : List ℕ} → Read p held out → p .run .failed ≡ false → Done (p .run) chunk held (p .count) out q held′ out′ → Read q held′ out′
+pub more : {p q : Carried} {chunk held held′ out out′ : List ℕ} → Read p held out → p .run .failed ≡ false → Done (p .run) chunk held (p .count) out q held′ out′ → Read q held′ out′
 more {chunk = chunk} g f n = record {
   input = g .input ++ (chunk ∷ []);
   written = g .written ++ n .written;

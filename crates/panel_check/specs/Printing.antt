@@ -11,7 +11,7 @@ use Rattle.sheet.specs.declared.Drawing.{Drawing}
 use Rattle.lines.specs.Runs.{ran, throughChunk, chunks, joined, through}
 use Rattle.lines.specs.Lines.{linesOf}
 use Rattle.panel_check.specs.declared.State.{State}
-use Rattle.panel_check.specs.declared.Taken.{Taken}
+use Rattle.panel_check.specs.declared.Carried.{Carried}
 use Rattle.panel_check.specs.declared.Waiting.{Waiting}
 use Rattle.panel_check.specs.Telling.{Told, toldNothing, verdictOf, toldAfter, concluded, answersOf}
 
@@ -50,7 +50,7 @@ pub record Takes (r : State) (line out : List ℕ) (q : State) (out′ : List �
   pub fits : q .used ≤ 65536
 
 -- The same for the lines of a chunk, behind the first `count` bytes held. If a write failed, the lines behind were not taken.
-pub record Done (r : State) (chunk held : List ℕ) (count : ℕ) (out : List ℕ) (q : Taken) (held′ out′ : List ℕ) : Type 0 where
+pub record Done (r : State) (chunk held : List ℕ) (count : ℕ) (out : List ℕ) (q : Carried) (held′ out′ : List ℕ) : Type 0 where
   pub written : List ℕ
   pub spilled : Spilled written
   pub whole : q .run .failed ≡ false → (before : List ℕ) → ran (toldSoFar (q .run) (before ++ written) out′) (take (q .count) held′) ≡ throughChunk toldAfter (toldSoFar r before out) (take count held) chunk
@@ -62,7 +62,7 @@ abbrev pub afterFailure : State → State
 afterFailure r = record { sketch = r .sketch; begun = r .begun; lines = r .lines; stopped = r .stopped; used = r .used; failed = true }
 
 -- the run and the bytes held are those of some chunks, read from the start, unless something failed
-pub record Read (q : Taken) (held out : List ℕ) : Type 0 where
+pub record Read (q : Carried) (held out : List ℕ) : Type 0 where
   pub input : List (List ℕ)
   pub written : List ℕ
   pub spilled : Spilled written

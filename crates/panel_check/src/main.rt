@@ -34,7 +34,7 @@ pub struct State {
 }
 
 // The state, and how many bytes of a line that goes on are held.
-pub struct Taken {
+pub struct Carried {
     pub run: State,
     pub count: usize,
 }
@@ -121,7 +121,7 @@ fn take_line(r: State, line: &[u8], out: &mut [u8]) -> State
 }
 
 // All the lines that end in a chunk; after a failed write no more of them.
-fn take_chunk(run: State, chunk: &[u8], held: &mut [u8], begun: usize, out: &mut [u8]) -> Taken
+fn take_chunk(run: State, chunk: &[u8], held: &mut [u8], begun: usize, out: &mut [u8]) -> Carried
     requires { ⌜ run .used ≤ 65536 ⌝ ∗ ⌜ 81 ≤ length (now held) ⌝ ∗ ⌜ begun ≤ 81 ⌝ ∗ ⌜ length (now out) ≡ 65536 ⌝ }
     ensures { λ q. ⌜ Done run (now (chunk .entry)) (now (held .entry)) begun (now (out .entry)) q (now (held .exit)) (now (out .exit)) ⌝ }
 {
@@ -133,17 +133,17 @@ fn take_chunk(run: State, chunk: &[u8], held: &mut [u8], begun: usize, out: &mut
             Cut::Line { count: n, next } => {
                 r = take_line(r, &held[..n], out);
                 if r.failed {
-                    return Taken { run: r, count: 0 };
+                    return Carried { run: r, count: 0 };
                 }
                 count = 0;
                 at = next;
             }
             Cut::More { count: n } => {
-                return Taken { run: r, count: n };
+                return Carried { run: r, count: n };
             }
         }
     }
-    Taken { run: r, count }
+    Carried { run: r, count }
 }
 
 // The end of the input: a drawing that has begun is answered, or the unreadable line told alone. What waits then is left to write.
@@ -203,7 +203,7 @@ fn failed(r: State) -> State
 
 // The lines of all that is read. A proved loop has to end, and nothing says that the input does: it counts its reads down, from a
 // number that no input uses up.
-fn read_lines(chunk: &mut [u8], held: &mut [u8], out: &mut [u8]) -> Taken
+fn read_lines(chunk: &mut [u8], held: &mut [u8], out: &mut [u8]) -> Carried
     requires { ⌜ 81 ≤ length (now held) ⌝ ∗ ⌜ length (now out) ≡ 65536 ⌝ }
     ensures { λ q. ⌜ Read q (now (held .exit)) (now (out .exit)) ⌝ }
 {
@@ -229,15 +229,15 @@ fn read_lines(chunk: &mut [u8], held: &mut [u8], out: &mut [u8]) -> Taken
                 }
             }
             Got::End => {
-                return Taken { run: r, count };
+                return Carried { run: r, count };
             }
             Got::Failed => {
                 let run = failed(r);
-                return Taken { run, count };
+                return Carried { run, count };
             }
         }
     }
-    Taken { run: r, count }
+    Carried { run: r, count }
 }
 
 // All that is read, and the answers that are left to write. After a failure none is.

@@ -62,8 +62,8 @@ pub fn delete_on(d: Drawing, x: i32, y: i32, size: i32, t: Tally) -> Edited
     act_on(d, Act::Delete, x, y, size, t)
 }
 
-// "Turn right, mirror.", the turn. Two wrong answers that this rules out: as many told as hit as were lost (hit_invented), and as many told as lost as were
-// hit (lost_invented).
+// "Turn right, mirror.", the turn. Two wrong answers that this rules out: as many told as hit as were lost (hit_invented), and as many told
+// as lost as were hit (lost_invented).
 pub fn rotate_on(d: Drawing, x: i32, y: i32, size: i32, t: Tally) -> Edited
     requires { ⌜ Lawful d ⌝ }
     ensures { λ r. ⌜ r ≡ Calls.rotateAt d x y size t ⌝ }
