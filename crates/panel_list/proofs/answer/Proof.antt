@@ -1,11 +1,10 @@
 -- `panel_list::answer` meets its contract: part by part, what is left of the chunk is the whole, and what was printed is handed over.
-use mathlib.Core.Path.{_≡_, refl, sym, subst, _∙_}
+use mathlib.Core.Path.{_≡_, refl, subst, _∙_}
 use mathlib.Core.Bool.{true, false}
 use Prim.Native.Nat.{_-_}
 use native.Mathlib.Omega.{arith}
 use lib.Dec.{T}
-use lib.ListN.{length}
-use lib.Seq.{length-take-le}
+use lib.ListN.{length, length-take}
 use Rattle.panel_list.proofs.Chunked.{Chunked, start, at-end, reached, on, less}
 use borrow.Author.Needs.{needs}
 use Rattle.panel_list.proofs.answer.Statement.{statement}
@@ -39,7 +38,9 @@ slice-reshare-prefix-hand-over : tie.Need-slice-reshare-prefix-hand-over Inv-loo
 slice-reshare-prefix-hand-over c = omega (arith, c .before .before .before .before .before .take-lines .ensures .fits)
 
 slice-aggregate-hand-over : tie.Need-slice-aggregate-hand-over Inv-loop μ-loop
-slice-aggregate-hand-over c = sym (length-take-le _ _ (omega (arith, c .before .before .before .before .before .before .take-lines .ensures .fits)))
+slice-aggregate-hand-over c =
+    let t = c .before .before .before .before .before .before .take-lines in
+    omega (arith, length-take (t .result .used) (t .last .1 .1 .1 .1 .0), t .ensures .fits)
 
 same-length : tie.Need-same-length Inv-loop μ-loop
 same-length c = let t = c .before .before .before .before .before .before .before .before .before in t .take-lines .kept .1 .1 .0 ∙ t .before .before .before .before .before .loop .inv .1

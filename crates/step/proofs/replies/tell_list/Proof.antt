@@ -37,7 +37,7 @@ put-fitting-requires c κs =
     let s = i .before .before .before in
     let r = list-room (s .pre (i .if1 .left)) (owned (s .args .e .drawing) _ (s .good .0 .1 .1 .1 .1 .0 .1 .1)) in
     let inside = list-inside (s .args .e) (i .if1 .left) (s .args .out .now) (l .write-list-on .ensures .0) (l .write-list-on .ensures .1) r (c .before .before .before .before .before .before .if2 .left) in
-    (inside .0, (inside .1, line-short (p .put-loose .ensures .0) (p .put-loose .ensures .1) refl .1))
+    (omega (arith, inside .0), (omega (arith, inside .1), line-short (p .put-loose .ensures .0) (p .put-loose .ensures .1) refl .1))
 
 returns-3 : tie.Need-returns-3
 returns-3 c =
