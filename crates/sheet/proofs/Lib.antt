@@ -30,6 +30,7 @@ pub mod JointRows
 pub mod Totals
 -- Components, and the edits of a sheet.
 pub mod Boxes
+pub mod Square
 pub mod Parts
 pub mod Edits
 pub mod Placing

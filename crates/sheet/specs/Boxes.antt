@@ -6,7 +6,7 @@ pub use Rattle.symbol.specs.Boxes.{Shares}
 use Rattle.sheet.specs.declared.Wire.{Wire}
 use Rattle.sheet.specs.Lines.{low, high, tip}
 
--- the square; what lies below the lowest coordinate holds no point of a drawing
+-- the square, cut off at row number 0: over coordinates this loses no point (proofs/Square: square-in, square-meets)
 abbrev pub square : Point → ℕ → Bounds
 square p size = record {
   low = record { x = p .x - size; y = p .y - size };
