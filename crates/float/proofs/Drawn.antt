@@ -13,11 +13,11 @@ use Rattle.lists.proofs.Tests.{both-l, both-r}
 use Rattle.edge.proofs.Whole.{one-times, minus-times, row-plus-left, row-minus-left, row-plus-right, row-minus-right, size-neg}
 use Rattle.orientation.specs.Rows.{Row, plus-x, minus-x, plus-y, minus-y}
 use Rattle.float.specs.Drawn.{turned}
-use Rattle.float.specs.Close.{unit, signed, scale, whole-units, tame, exact, sumOf, near, negative-zero, Close, ClosePosition}
+use Rattle.float.specs.Close.{unit, signed, scale, whole-units, tame, exact, sumOf, near, IsWhole, negative-zero, Close, ClosePosition}
 use Rattle.float.proofs.Signed.{signed-size}
 use Rattle.float.proofs.Rounded.{rounded, rounded-near, rounded-whole}
 use Rattle.float.proofs.Sums.{Has, Held, add-has}
-use Rattle.float.proofs.Products.{mul-has, add-position}
+use Rattle.float.proofs.Products.{whole-is, mul-has, add-position}
 use Rattle.float.proofs.Units.{units, units-add, units-row, size-units, sum-small}
 
 -- a drawn coordinate: turned, then "+ the position"
@@ -115,14 +115,25 @@ module _ {a b : ℤ} (x y : Float) (p : ℤ) (r : Row a b) (hx : T (tame x)) (hy
   pub drawn-rounded : drawnOf a b x y p ≡ rounded (sumOf a b x y p)
   drawn-rounded = add-position p wide (add-has (mul-has a (P .a-small) (X .has) (P .left .held)) (mul-has b (P .b-small) (Y .has) (P .right .held)) (P .both .held))
 
+  below : natAbs (sumOf a b x y p) < 2 ^ 37
+  below = sum-small (a *ℤ exact x +ℤ b *ℤ exact y) p (P .both .small) hp
+
+  -- "whole inputs give the whole number": the exact sum is below 2 ^ 13, so the format holds it
+  drawn-whole : (m n : ℤ) → exact x ≡ units m → exact y ≡ units n → IsWhole (drawnOf a b x y p) (a *ℤ m +ℤ b *ℤ n +ℤ p)
+  drawn-whole m n e f =
+      let z = a *ℤ m +ℤ b *ℤ n +ℤ p in
+      let u : sumOf a b x y p ≡ units z = (λ i. a *ℤ e i +ℤ b *ℤ f i +ℤ units p) ∙ (λ i. units-row m n r i +ℤ units p) ∙ units-add (a *ℤ m +ℤ b *ℤ n) p in
+      let h : natAbs (units z) < 2 ^ 37 = subst (λ (k : ℤ). natAbs k < 2 ^ 37) u below in
+      subst (λ (v : Float). IsWhole v z) (sym (drawn-rounded ∙ ap rounded u ∙ rounded-whole z)) (whole-is z (omega (arith, size-units z)))
+
   pub drawn-close : Close a b x y p (drawnOf a b x y p)
   drawn-close =
-      let n = rounded-near (sumOf a b x y p) (sum-small (a *ℤ exact x +ℤ b *ℤ exact y) p (P .both .small) hp) in
+      let n = rounded-near (sumOf a b x y p) below in
       record {
         x-tame = hx;
         y-tame = hy;
         at-most = rw drawn-rounded (n .0);
-        whole = λ m k e f. drawn-rounded ∙ ap rounded ((λ i. a *ℤ e i +ℤ b *ℤ f i +ℤ units p) ∙ (λ i. units-row m k r i +ℤ units p) ∙ units-add (a *ℤ m +ℤ b *ℤ k) p) ∙ rounded-whole (a *ℤ m +ℤ b *ℤ k +ℤ p);
+        whole = drawn-whole;
         no-negative-zero = rw drawn-rounded (n .1);
       }
 
@@ -130,4 +141,4 @@ module _ {a b : ℤ} (x y : Float) (p : ℤ) (r : Row a b) (hx : T (tame x)) (hy
 pub whole-close : (z : ℤ) → natAbs z ≤ 6000 → ClosePosition z (ofInt binary32 z)
 whole-close z h =
     let n = subst (λ (f : Float). T (near f (units z)) × T (not (negative-zero f))) (rounded-whole z) (rounded-near (units z) (omega (arith, size-units z))) in
-    record { at-most = n .0; whole = refl; no-negative-zero = n .1 }
+    record { at-most = n .0; whole = whole-is z (omega arith); no-negative-zero = n .1 }

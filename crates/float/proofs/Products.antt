@@ -1,7 +1,7 @@
 -- Products by whole numbers, and sums with them: exact where the format holds the result, else the exact number, rounded once.
 use mathlib.Core.Path.{_≡_, sym, ap, _∙_}
 use Prim.Native.Nat.{ℕ, suc, _*_, _^_, _≤_, _<_}
-use native.Mathlib.Nat.{mul-pos}
+use native.Mathlib.Nat.{mul-one, mul-pos}
 use native.Mathlib.Omega.{arith}
 use mathlib.Core.Bool.{Bool, true, false}
 use lib.IntN.{ℤ, pos, negsuc, natAbs, _+ℤ_, _*ℤ_}
@@ -12,7 +12,7 @@ use lib.Ieee.Back.{round-whole}
 use lib.Ieee.Fits.{down-pos}
 use lib.Ieee.Exact.{HasValue}
 use lib.Ieee.Scale.{round-same}
-use Rattle.float.specs.Close.{unit}
+use Rattle.float.specs.Close.{unit, signed, IsWhole}
 use Rattle.float.proofs.Signed.{negative, signed-is, signed-times, signed-mul}
 use Rattle.float.proofs.Rounded.{rounded, rounded-signed}
 use Rattle.float.proofs.Sums.{Has, Held, held, add-value, sum-is}
@@ -37,6 +37,20 @@ whole-value : (z : ℤ) → natAbs z ≤ 2 ^ 24 → HasValue (ofInt binary32 z) 
 unfolding ofInt
 whole-value (pos n) h = round-whole binary32 false n h
 whole-value (negsuc n) h = round-whole binary32 true (suc n) h
+
+-- the float of a whole number that the format holds is that number
+pub whole-is : (z : ℤ) → natAbs z ≤ 2 ^ 24 → IsWhole (ofInt binary32 z) z
+unfolding IsWhole
+whole-is z h = go (ofInt binary32 z) (whole-value z h)
+  where
+    go : (x : Float) → HasValue x (negative z) (natAbs z) 1 → IsWhole x z
+    go nan v = absurd v
+    go (inf t) v = absurd v
+    go (fin t m e) v =
+        (λ i. signed (v .0 i) (sym (mul-one (m * up e)) i))
+        ∙ ap (signed (negative z)) (v .1)
+        ∙ sym (signed-times (negative z) (natAbs z) (down e))
+        ∙ (λ i. signed-is z i *ℤ pos (down e))
 
 -- a product by a whole number that the format holds is exact
 pub mul-has : {x : Float} {X : ℤ} (a : ℤ) → natAbs a ≤ 2 ^ 24 → Has x X → Held (a *ℤ X) → Has (mul binary32 (ofInt binary32 a) x) (a *ℤ X)

@@ -5,7 +5,7 @@ use Prim.Native.Nat.{ℕ, _+_, _-_, _*_, _^_}
 use mathlib.Core.Bool.{Bool, true, false, not, _&&_}
 use lib.Dec.{T, leb, ltb, eqb}
 use lib.IntN.{ℤ, pos, negsuc, negℤ, natAbs, _+ℤ_, _-ℤ_, _*ℤ_}
-use lib.Ieee.{Float, nan, inf, fin, binary32, up, down, ofInt}
+use lib.Ieee.{Float, nan, inf, fin, up, down}
 
 -- how many units 1 is
 abbrev pub unit : ℕ
@@ -49,6 +49,12 @@ near nan E = false
 near (inf s) E = false
 near (fin s m e) E = leb (natAbs (signed s (m * up e * unit) -ℤ E *ℤ pos (down e)) * 4096) (unit * down e)
 
+-- r is the whole number z: finite, and ±m · up e / down e is z, with the denominator multiplied out
+unfoldable pub IsWhole : Float → ℤ → Type 0
+IsWhole nan z = ⊥
+IsWhole (inf s) z = ⊥
+IsWhole (fin s m e) z = signed s (m * up e) ≡ z *ℤ pos (down e)
+
 -- −0
 unfoldable pub negative-zero : Float → Bool
 negative-zero nan = false
@@ -61,11 +67,11 @@ pub record Close (a b : ℤ) (x y : Float) (p : ℤ) (r : Float) : Type 0 where
   pub x-tame : T (tame x)
   pub y-tame : T (tame y)
   pub at-most : T (near r (sumOf a b x y p))
-  pub whole : (m n : ℤ) → exact x ≡ m *ℤ pos unit → exact y ≡ n *ℤ pos unit → r ≡ ofInt binary32 (a *ℤ m +ℤ b *ℤ n +ℤ p)
+  pub whole : (m n : ℤ) → exact x ≡ m *ℤ pos unit → exact y ≡ n *ℤ pos unit → IsWhole r (a *ℤ m +ℤ b *ℤ n +ℤ p)
   pub no-negative-zero : T (not (negative-zero r))
 
 -- the same of a coordinate r that is a position p alone, as in the mark of a wire or a joint: the exact sum is p
 pub record ClosePosition (p : ℤ) (r : Float) : Type 0 where
   pub at-most : T (near r (p *ℤ pos unit))
-  pub whole : r ≡ ofInt binary32 p
+  pub whole : IsWhole r p
   pub no-negative-zero : T (not (negative-zero r))
