@@ -16,7 +16,7 @@ use Rattle.draw.specs.Symbols.{whole, drawsOf}
 use Rattle.draw.specs.Transforms.{floatPosition, transformOf}
 use Rattle.draw.specs.declared.Draw.the-variants.{Line, Circle}
 
--- "past the last the reply is "no shape", and for a bad component, checked first, it is 4, 1 or 5."
+-- "for a bad component, checked first, it is 4, 1 or 5."
 unfoldable pub componentShape : ℕ → ℕ → ℤ → ℤ → Label → ℕ → Bool → Bool → Answer
 componentShape kind n x y label i a b =
     cond (knownSymbol kind n)

@@ -45,7 +45,7 @@ componentPads kind o x y = cond (knownSymbol kind o) (cond (ranged 5800 x && ran
 unfoldable pub componentBox : ℕ → RotMirror → ℤ → ℤ → BoxAnswer
 componentBox kind o x y = cond (knownSymbol kind o) (cond (ranged 5800 x && ranged 5800 y) (spanned (positionOf o x y (lowAt kind)) (positionOf o x y (highAt kind))) (noBox 1)) (noBox 4)
 
--- "past the last the reply is "no shape", and for a bad component, checked first, it is 4, 1 or 5."
+-- "for a bad component, checked first, it is 4, 1 or 5."
 unfoldable pub componentShape : ℕ → RotMirror → ℤ → ℤ → Label → ℕ → Bool → Bool → Answer
 componentShape kind o x y label i a b =
     cond (knownSymbol kind o)
