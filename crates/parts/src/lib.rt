@@ -13,6 +13,7 @@ use sheet::Component;
 use sheet::Components;
 use symbol::Bounds;
 use symbol::bounds_at;
+use symbol::can_turn;
 use symbol::touches;
 
 // The empty table: all its rows are zero, their orientations too (zero_row_turned).
@@ -43,5 +44,5 @@ pub(crate) fn meets(b: Bounds, every: bool, c: Component) -> bool
     requires { ⌜ Parts.PartFits c ⌝ }
     ensures { λ r. ⌜ r ≡ met b every c ⌝ }
 {
-    (every | (c.kind == 1)) & touches(b, box_of(c))
+    (every | can_turn(c.kind)) & touches(b, box_of(c))
 }
