@@ -1,5 +1,5 @@
 -- The rows of a drawing as text, a line each: the tally, the wires, the joints, the components, and a line `.` at the end.
-use Prim.Native.Nat.{ℕ, _+_, _≤_}
+use Prim.Native.Nat.{ℕ, _≤_}
 use mathlib.Core.Bool.{Bool, cond}
 use mathlib.Core.List.{List, [], _∷_, _++_}
 use lib.ListN.{length}
@@ -12,6 +12,7 @@ use Rattle.sheet.specs.declared.Component.{Component}
 use Rattle.sheet.specs.declared.Tally.{Tally}
 use Rattle.sheet.specs.declared.Drawing.{Drawing}
 use Rattle.sheet.specs.Drawings.{wireRows, jointRows, componentRows}
+pub use Rattle.text.specs.Text.{Space}
 use Rattle.text.specs.Text.{Put, decimalOf, signedOf}
 
 -- ---- words: `T`, `W`, `J`, `C`, `h`, `v`, `.`, space and newline are the bytes 84, 87, 74, 67, 104, 118, 46, 32 and 10
@@ -61,7 +62,3 @@ rowsOf t d = tallyLine t ++ (gather wireLine (wireRows (d .wires)) ++ (gather jo
 pub record Puts (most : ℕ) (old : List ℕ) (at : ℕ) (bs new : List ℕ) (next : ℕ) : Type 0 where
   pub put : Put old at bs new next
   pub short : length bs ≤ most
-
--- the index behind them is at most a million
-abbrev pub Space : ℕ → ℕ → Type 0
-Space at most = at + most ≤ 1000000

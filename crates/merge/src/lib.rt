@@ -3,12 +3,11 @@ mod codes;
 mod held;
 
 ghost use mathlib.Core.Path.{_≡_};
-ghost use mathlib.Core.Bool.{_&&_, Bool·beq};
 ghost use Prim.Native.Nat.{_≤_};
-ghost use lib.Dec.{eqb};
 ghost use Rattle.sheet.specs.Merge;
 ghost use Rattle.sheet.specs.Drawings.{wireRows};
 ghost use Rattle.wires.specs.Tables.{pointRows, Tabled};
+ghost use Rattle.merge.specs.Following.{goesOn};
 use sheet::Wire;
 use sheet::Wires;
 use wires::Points;
@@ -21,8 +20,8 @@ pub struct Numbers {
 }
 
 // b goes on in line where a ends.
-fn follows(a: Wire, b: Wire) -> bool
-    ensures { λ r. ⌜ r ≡ (Bool·beq (a .vertical) (b .vertical) && (eqb (a .line) (b .line) && eqb (a .end) (b .start))) ⌝ }
+pub fn goes_on(a: Wire, b: Wire) -> bool
+    ensures { λ r. ⌜ r ≡ goesOn a b ⌝ }
 {
     (a.vertical == b.vertical) & ((a.line == b.line) & (a.end == b.start))
 }
@@ -43,7 +42,7 @@ pub fn merge(ws: Wires, pads: Points) -> Wires
     while i < n {
         let b = ws.rows[i];
         let apart = held[i - 1];
-        if follows(cur, b) & !apart {
+        if goes_on(cur, b) & !apart {
             cur.end = b.end;
         } else {
             let k = out.count;

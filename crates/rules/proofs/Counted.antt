@@ -20,7 +20,8 @@ use Rattle.sheet.proofs.Held.{held-reads}
 use Rattle.sheet.proofs.Rule4.{rule-4, count-two, count-above}
 use Rattle.sheet.proofs.JointRows.{joints-listed, count-joints}
 use Rattle.rules.specs.Check.{free, check3, check4, check6}
-use Rattle.rules.specs.Steps.{goesOn, parted, sameRow}
+use Rattle.merge.specs.Following.{goesOn}
+use Rattle.rules.specs.Steps.{parted, sameRow}
 use Rattle.rules.proofs.Decides.{free-reads, reads3, reads4, reads6}
 
 -- the points of wire ends and pads are those of the joints

@@ -1,5 +1,5 @@
 -- Below the calls: the tests that the plain check makes row by row.
-use mathlib.Core.Bool.{Bool, _&&_, _||_, not, Bool·beq}
+use mathlib.Core.Bool.{Bool, _&&_, _||_, not}
 use mathlib.Core.List.{List}
 use Prim.Native.Nat.{_≤_}
 use lib.Dec.{eqb}
@@ -11,10 +11,7 @@ use Rattle.parts.specs.Tables.{PartsFit}
 use Rattle.sheet.specs.Points.{same}
 use Rattle.sheet.specs.Lines.{high, tip}
 use Rattle.sheet.specs.Joints.{place, countAt}
-
--- b goes on in line where a ends
-unfoldable pub goesOn : Wire → Wire → Bool
-goesOn a b = Bool·beq (a .vertical) (b .vertical) && (eqb (a .line) (b .line) && eqb (a .end) (b .start))
+use Rattle.merge.specs.Following.{goesOn}
 
 -- the wire goes on in line in no other, or more than the two ends lie where they meet
 unfoldable pub parted : List Wire → List Joint → Wire → Bool

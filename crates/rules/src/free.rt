@@ -5,7 +5,9 @@ ghost use Rattle.lists.specs.Lists.{any, all};
 ghost use Rattle.sheet.specs.Joints.{place, countAt};
 ghost use Rattle.sheet.specs.Drawings.{wireRows, jointRows};
 ghost use Rattle.rules.specs.Check.{free};
-ghost use Rattle.rules.specs.Steps.{goesOn, parted};
+ghost use Rattle.merge.specs.Following.{goesOn};
+ghost use Rattle.rules.specs.Steps.{parted};
+use merge::goes_on;
 use sheet::Joints;
 use sheet::Wire;
 use sheet::Wires;
@@ -45,12 +47,6 @@ pub fn none_inside(ws: Wires, js: Joints) -> bool
         i += 1;
     }
     true
-}
-
-fn goes_on(a: Wire, b: Wire) -> bool
-    ensures { λ r. ⌜ r ≡ goesOn a b ⌝ }
-{
-    (a.vertical == b.vertical) & ((a.line == b.line) & (a.end == b.start))
 }
 
 // Some wire goes on in line where a ends.

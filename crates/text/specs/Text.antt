@@ -14,9 +14,13 @@ pub record Put (old : List ℕ) (at : ℕ) (bs new : List ℕ) (next : ℕ) : Ty
   pub bytes : new ≡ sets old at bs
   pub behind : next ≡ at + length bs
 
--- the index behind them is at most a million
+-- so many bytes from an index on end at most at a million
+abbrev pub Space : ℕ → ℕ → Type 0
+Space at most = at + most ≤ 1000000
+
+-- and so do the bytes bs
 abbrev pub Room : ℕ → List ℕ → Type 0
-Room at bs = at + length bs ≤ 1000000
+Room at bs = Space at (length bs)
 
 -- the digits of n, up to k and one
 unfoldable pub digitsIn : ℕ → ℕ → List ℕ

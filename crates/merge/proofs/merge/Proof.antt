@@ -8,6 +8,7 @@ use Rattle.symbol.specs.declared.Point.{Point}
 use Rattle.lists.proofs.Tables.{long}
 use Rattle.merge.specs.Codes.{Flagged}
 use Rattle.merge.proofs.Merging.{Merging, merge-start, merge-join, merge-push, merge-end, merge-none}
+use Rattle.merge.specs.Following.{goesOn}
 use borrow.Author.Needs.{needs}
 use native.Mathlib.Omega.{arith}
 use Rattle.merge.proofs.merge.Statement.{statement}
@@ -46,8 +47,8 @@ sub-apart c = omega arith
 array-read-apart : tie.Need-array-read-apart Inv-loop μ-loop
 array-read-apart c = omega arith
 
-follows-requires : tie.Need-follows-requires Inv-loop μ-loop
-follows-requires c κs = tt
+goes-on-requires : tie.Need-goes-on-requires Inv-loop μ-loop
+goes-on-requires c κs = tt
 
 mul-cur : tie.Need-mul-cur Inv-loop μ-loop
 mul-cur c = omega arith
@@ -65,10 +66,11 @@ loop-less : tie.Need-loop-less Inv-loop μ-loop
 loop-less c = omega arith
 
 loop-again : tie.Need-loop-again Inv-loop μ-loop
+unfolding goesOn
 loop-again c = let s = c .before .before .before .before .loop .inv .4 in
     ⊎-elim
-    (λ v. (omega arith, omega arith, omega arith, rw (v .1) (omega arith), λ ps f. rw (v .1, v .2) (merge-join _ (s ps f) f (c .before .follows .ensures) refl (omega arith) (omega arith) (v .0 .taken))))
-    (λ v. (omega arith, omega arith, omega arith, rw (v .1) (omega arith), λ ps f. rw (v .1, v .2) (merge-push _ (s ps f) f (c .before .follows .ensures) refl (omega arith) (omega arith) (v .0 .left) (omega arith))))
+    (λ v. (omega arith, omega arith, omega arith, rw (v .1) (omega arith), λ ps f. rw (v .1, v .2) (merge-join _ (s ps f) f (c .before .goes-on .ensures) refl (omega arith) (omega arith) (v .0 .taken))))
+    (λ v. (omega arith, omega arith, omega arith, rw (v .1) (omega arith), λ ps f. rw (v .1, v .2) (merge-push _ (s ps f) f (c .before .goes-on .ensures) refl (omega arith) (omega arith) (v .0 .left) (omega arith))))
     (c .if2 .came)
 
 mul-cur-2 : tie.Need-mul-cur-2 Inv-loop μ-loop
@@ -98,7 +100,7 @@ merge-spec =
     element-copy-out-b
     sub-apart
     array-read-apart
-    follows-requires
+    goes-on-requires
     mul-cur
     element-set-from-cur
     add-out

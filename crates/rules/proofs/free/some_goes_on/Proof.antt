@@ -3,7 +3,7 @@ use Prim.Native.Nat.{_-_, _≤_}
 use Rattle.lists.proofs.Tables.{long}
 use Rattle.lists.proofs.Walks.{Rest, any-end, any-next, any-stop, rest-start}
 use Rattle.lists.specs.Lists.{any}
-use Rattle.rules.specs.Steps.{goesOn}
+use Rattle.merge.specs.Following.{goesOn}
 use borrow.Author.Needs.{needs}
 use lib.ListN.{take, length}
 use mathlib.Core.Path.{_≡_, _∙_, sym}

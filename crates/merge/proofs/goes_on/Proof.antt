@@ -1,8 +1,8 @@
 -- The test is its definition.
-use Rattle.rules.specs.Steps.{goesOn}
+use Rattle.merge.specs.Following.{goesOn}
 use mathlib.Core.Path.{refl}
-use Rattle.rules.proofs.free.goes_on.Statement.{statement}
-use Rattle.rules.proofs.free.goes_on.Tie as tie
+use Rattle.merge.proofs.goes_on.Statement.{statement}
+use Rattle.merge.proofs.goes_on.Tie as tie
 
 returns : tie.Need-returns
 unfolding goesOn
