@@ -12,7 +12,7 @@ use Rattle.sheet.specs.Points.{same}
 use Rattle.sheet.specs.Lines.{low, high, tip, Inside, Follows}
 use Rattle.sheet.specs.Joints.{place}
 use Rattle.sheet.specs.Drawings.{zeroJoint}
-use Rattle.rules.specs.Steps.{goesOn}
+use Rattle.merge.specs.Following.{goesOn}
 
 -- wire b comes after wire a and shares no length with it
 unfoldable pub before : Wire → Wire → Bool

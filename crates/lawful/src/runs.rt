@@ -10,6 +10,7 @@ use crate::columns::by_column;
 use crate::columns::column;
 use crate::columns::index;
 use crate::columns::next_row;
+use merge::goes_on;
 use sheet::Joint;
 use sheet::Joints;
 use sheet::Wire;
@@ -25,9 +26,7 @@ fn is_clear(a: Wire, w: Wire, i: Joint, j: Joint) -> bool
 {
     let p = Point { x: i.x, y: i.y };
     let q = Point { x: j.x, y: j.y };
-    (same(p, low_tip(w)) & same(q, high_tip(w)))
-        & (!((a.vertical == w.vertical) & ((a.line == w.line) & (a.end == w.start)))
-            | !(i.count == 2))
+    (same(p, low_tip(w)) & same(q, high_tip(w))) & (!goes_on(a, w) | !(i.count == 2))
 }
 
 // Horizontal wires: joint rows of one line stand next to each other. Those that follow are tried until they fit.
