@@ -1,1 +1,4 @@
+pub mod Handed
+pub mod Form
 pub mod Local
+pub mod Lender
