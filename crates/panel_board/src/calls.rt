@@ -16,6 +16,10 @@ use crate::print::put_told;
 use crate::steps::run;
 use label::Label;
 use label::label_of;
+use lending::tally_after_component;
+use lending::tally_after_delete;
+use lending::tally_after_mirror;
+use lending::tally_after_turn;
 use lending::tally_after_wire;
 use schematic::add_component;
 use schematic::add_wire;
@@ -178,6 +182,13 @@ pub(crate) fn labels() {
     labelled(b"0x7F", bytes, 3);
 }
 
+// The tallies after a delete, a turn and a mirroring at (x, 0).
+fn pointed(d: Drawing, x: i32, size: i32) {
+    put_tally(tally_after_delete(d, x, 0, size));
+    put_tally(tally_after_turn(d, x, 0, size));
+    put_tally(tally_after_mirror(d, x, 0, size));
+}
+
 // "The caller lends a tally that is brought up to date in its place": 9 9 9 9 is lent, and stays after a refusal.
 pub(crate) fn lent() {
     put(b"# a lent tally: 2, 1, 7; a wire of zero length, and a wire\n");
@@ -186,6 +197,23 @@ pub(crate) fn lent() {
     put_tally(tally_after_wire(full_wires(), false, 600, 0, 9));
     put_tally(tally_after_wire(empty(), false, 0, 5, 5));
     put_tally(tally_after_wire(empty(), false, 0, 0, 100));
+    put(b"# 4, 1, 5, 6; a contact with pad C on v 100 -200 200\n");
+    let wired = add_wire(empty(), true, 100, -200, 200, NINES);
+    let v = wired.drawing;
+    let k1 = label_of(b"K1");
+    let placed = add_component(v, 1, 1, 0, 0, k1, NINES);
+    let d = placed.drawing;
+    put_tally(tally_after_component(v, 3, 1, 0, 0, k1));
+    put_tally(tally_after_component(v, 1, 1, 5801, 0, k1));
+    let long = label_of(b"a label too long ");
+    put_tally(tally_after_component(v, 1, 1, 0, 0, long));
+    put_tally(tally_after_component(d, 1, 0, 150, 0, k1));
+    put_tally(tally_after_component(v, 1, 1, 0, 0, k1));
+    put(b"# delete, turn and mirror there: 1; 3; no hit; the contact\n");
+    pointed(d, 6001, 1001);
+    pointed(d, 0, 1001);
+    pointed(d, 1000, 0);
+    pointed(d, 0, 0);
 }
 
 // A script line as a call: reply, hit and lost, tally, and the whole buffer afterwards.
