@@ -1,37 +1,19 @@
 -- What stands behind an answer.
 use mathlib.Core.Path.{_≡_, refl, ap}
 use mathlib.Core.Bool.{Bool, true, false}
-use mathlib.Core.Logic.{⊎-elim}
 use mathlib.Core.List.{List, [], _∷_}
 use Prim.Native.Nat.{ℕ}
 use native.Mathlib.Omega.{arith}
-use types.Run.{OneOf}
-use denote.Enum.Declared.{tagOf}
 use Rattle.sheet.specs.declared.Drawing.{Drawing}
 use Rattle.sheet.specs.declared.Tally.{Tally}
 use Rattle.sheet.specs.Drawings.{Sized, listsOf, tallyOf, drawn}
 use Rattle.sheet.specs.Rules.{Lawful}
 use Rattle.sheet.proofs.Rules.{lawful-drawn}
 use Rattle.joints.specs.Tables.{Counted}
-use Rattle.script.specs.declared.Command.{Command}
-use Rattle.script.specs.declared.Command.the-variants.{Horizontal, Vertical, Place, Delete, Turn, Mirror, Nets, Unreadable}
-use Rattle.script.proofs.Command as command
 use Rattle.text.specs.Text.{Put}
 use Rattle.text.proofs.Puts.{put-then}
 use Rattle.dump.specs.Rows.{rowsOf, Puts}
-use Rattle.step.specs.Telling.{asksList}
 use Rattle.panel_rows.specs.Printing.{behind}
-
--- no other command than `n` asks for the list
-pub asks-none : (c : Command) → OneOf (0 ∷ 1 ∷ 2 ∷ 3 ∷ 4 ∷ 5 ∷ 7 ∷ []) (tagOf command.the-type c) → false ≡ asksList c
-asks-none (Horizontal y x1 x2) k = refl
-asks-none (Vertical x y1 y2) k = refl
-asks-none (Place kind orient x y label) k = refl
-asks-none (Delete x y size) k = refl
-asks-none (Turn x y size) k = refl
-asks-none (Mirror x y size) k = refl
-asks-none Nets k = absurd (⊎-elim (λ e. omega arith) (⊎-elim (λ e. omega arith) (⊎-elim (λ e. omega arith) (⊎-elim (λ e. omega arith) (⊎-elim (λ e. omega arith) (⊎-elim (λ e. omega arith) (λ e. omega arith)))))) k)
-asks-none Unreadable k = refl
 
 -- the joints of a lawful drawing are those of its wires and components
 pub lawful-counted : {d : Drawing} → Lawful d → Sized d → Counted d

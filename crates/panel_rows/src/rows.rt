@@ -1,18 +1,15 @@
 // One line of a script: its answer, and behind it the rows of the drawing.
-ghost use mathlib.Core.Path.{_≡_};
 ghost use Prim.Native.Nat.{_≤_};
 ghost use lib.ListN.{length};
 ghost use Rattle.sheet.specs.Rules.{Lawful};
-ghost use Rattle.script.specs.Reading.{commandOf};
-ghost use Rattle.step.specs.Telling.{asksList};
 ghost use Rattle.dump.specs.Rows.{Puts, Space};
 ghost use Rattle.panel_rows.specs.Printing.{behind, PrintsRows};
 use dump::put_rows;
 use joints::tally::tally;
-use script::Command;
 use script::read_line;
 use sheet::Drawing;
 use step::NO_TALLY;
+use step::asks_list;
 use step::step_on;
 use text::put_byte;
 
@@ -20,16 +17,6 @@ use text::put_byte;
 pub struct Printed {
     pub drawing: Drawing,
     pub length: usize,
-}
-
-// Whether a line asks for the list.
-fn asks_list(line: &[u8]) -> bool
-    ensures { λ r. ⌜ r ≡ asksList (commandOf (now (line .entry))) ⌝ }
-{
-    match read_line(line) {
-        Command::Nets => true,
-        _ => false,
-    }
 }
 
 // What stands behind an answer.
@@ -50,7 +37,7 @@ pub(crate) fn rows_step(d: Drawing, line: &[u8], out: &mut [u8]) -> Printed
     requires { ⌜ 61488 ≤ length (now out) ⌝ ∗ ⌜ Lawful d ⌝ }
     ensures { λ r. ⌜ PrintsRows d (now (line .entry)) (now (out .entry)) (now (out .exit)) r ⌝ }
 {
-    let list = asks_list(line);
+    let list = asks_list(read_line(line));
     let room: usize = 8192;
     let s = step_on(d, line, NO_TALLY, &mut out[..room]);
     let drawing = s.drawing;

@@ -20,7 +20,7 @@ use Rattle.text.specs.Text.{Put}
 use Rattle.text.proofs.Puts.{put-whole, put-none, put-length}
 use Rattle.step.specs.declared.replies.Stepped.{Stepped}
 use Rattle.step.specs.Steps.{After, printed, looseLine, listedly, inRoom, Answers}
-use Rattle.step.specs.Telling.{toldWith, Fitted, Tells}
+use Rattle.step.specs.Telling.{toldWith, Fitted, Replied, Tells}
 
 -- what is told of a line under one name is told of it under another
 pub tells-as : {a b : After} {old new : List ℕ} {r : Stepped} → a ≡ b → Tells a old new r → Tells b old new r
@@ -105,12 +105,18 @@ pub told-drawing : {a : After} {old new : List ℕ} {r : Stepped} → Tells a ol
 unfolding inRoom
 told-drawing {a} {old} w = ap (λ (e : Edited). e .drawing) (w .answers .outcome) ∙ choose (leb-reads (length (a .list)) (length old)) (λ (x : After). x .outcome .drawing ≡ a .outcome .drawing) (λ _. refl) (λ _. refl)
 
--- an answer line alone, from a buffer of its own
-pub told-line : (e : Edited) {bs own line old new : List ℕ} {k n : ℕ} {r : Stepped} → Put own 0 bs line k → k ≤ 40 → length own ≡ 40 → Fitted old 0 (take k line) new n → r ≡ toldWith e n
-    → Tells (record { outcome = e; list = []; answer = bs }) old new r
-told-line e {bs} {own} {line} {old} {new} {k} {n} {r} p few forty f is =
-    let fitted : Fitted old 0 bs new n = subst (λ l. Fitted old 0 l new n) (line-is p (omega (arith, forty))) f in
-    subst (λ r. Tells (record { outcome = e; list = []; answer = bs }) old new r) (sym is) (told-behind e [] bs old refl (omega arith) fitted (omega (arith, p .behind)))
+-- an answer line alone, made in a buffer of its own
+pub replied : {bs own line old new : List ℕ} {k n : ℕ} → Put own 0 bs line k → k ≤ 40 → length own ≡ 40 → Fitted old 0 (take k line) new n → Replied bs old new n
+replied {bs} {own} {line} {old} {new} {k} {n} p few forty f = record {
+  fitted = subst (λ l. Fitted old 0 l new n) (line-is p (omega (arith, forty))) f;
+  short = omega (arith, p .behind);
+}
+
+pub replied-as : {l l′ old new : List ℕ} {n : ℕ} → l ≡ l′ → Replied l old new n → Replied l′ old new n
+replied-as {old = old} {new} {n} = subst (λ l. Replied l old new n)
+
+pub told-line : (e : Edited) (l : List ℕ) {old new : List ℕ} {n : ℕ} → Replied l old new n → Tells (record { outcome = e; list = []; answer = l }) old new (toldWith e n)
+told-line e l {old} r = told-behind e [] l old refl (omega arith) (r .fitted) (omega (arith, r .short))
 
 -- ---- `n`
 

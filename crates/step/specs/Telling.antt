@@ -13,7 +13,7 @@ use Rattle.redraw.specs.declared.Edited.{Edited}
 use Rattle.script.specs.declared.Command.{Command}
 use Rattle.script.specs.declared.Command.the-variants.{Horizontal, Vertical, Place, Delete, Turn, Mirror, Nets, Unreadable}
 use Rattle.step.specs.declared.replies.Stepped.{Stepped}
-use Rattle.step.specs.Steps.{After, stepOf, inRoom, Answers}
+use Rattle.step.specs.Steps.{answered, counted, After, stepOf, inRoom, Answers}
 
 -- whether a line was read
 abbrev pub isReadable : Command → Bool
@@ -37,6 +37,21 @@ asksList (Mirror x y size) = false
 asksList Nets = true
 asksList Unreadable = false
 
+-- whether it is answered with hit and lost
+abbrev pub isCounted : Command → Bool
+isCounted (Horizontal y x1 x2) = false
+isCounted (Vertical x y1 y2) = false
+isCounted (Place kind orient x y label) = false
+isCounted (Delete x y size) = false
+isCounted (Turn x y size) = true
+isCounted (Mirror x y size) = true
+isCounted Nets = false
+isCounted Unreadable = false
+
+-- the answer line of an edit
+abbrev pub replyLine : Bool → ℕ → ℕ → ℕ → List ℕ
+replyLine counts reply hit lost = cond counts (counted reply hit lost) (answered reply)
+
 -- the answer of a call that tells the edit e, with so many bytes printed
 abbrev pub toldWith : Edited → ℕ → Stepped
 toldWith e n = record { reply = e .reply; tally = e .tally; drawing = e .drawing; hit = e .hit; lost = e .lost; length = n }
@@ -45,6 +60,11 @@ toldWith e n = record { reply = e .reply; tally = e .tally; drawing = e .drawing
 pub record Fitted (old : List ℕ) (at : ℕ) (l new : List ℕ) (r : ℕ) : Type 0 where
   pub behind : r ≡ cond (leb (at + length l) (length old)) (at + length l) at
   pub bytes : new ≡ cond (leb (at + length l) (length old)) (sets old at l) old
+
+-- a short line stands in front of a buffer, if it fits there
+pub record Replied (l old new : List ℕ) (r : ℕ) : Type 0 where
+  pub fitted : Fitted old 0 l new r
+  pub short : length l ≤ 40
 
 -- what came of a line is told in a buffer; in 8,192 bytes all of it
 pub record Tells (a : After) (old new : List ℕ) (r : Stepped) : Type 0 where

@@ -24,6 +24,7 @@ use redraw::pointer::rotate_on;
 use redraw::refused;
 use redraw::wire::add_wire_on;
 pub use replies::Stepped;
+pub use replies::asks_list;
 use replies::tell;
 use script::Command;
 use script::read_line;

@@ -6,8 +6,8 @@ ghost use Rattle.sheet.specs.Rules.{Lawful};
 ghost use Rattle.text.specs.Text.{Put};
 ghost use Rattle.script.specs.declared.Command.the-variants.{Nets};
 ghost use Rattle.step.specs.Steps;
-ghost use Rattle.step.specs.Steps.{answered, counted, looseLine, plainly, countedly, listedly};
-ghost use Rattle.step.specs.Telling.{Fitted, Tells, toldWith};
+ghost use Rattle.step.specs.Steps.{answered, counted, looseLine, listedly};
+ghost use Rattle.step.specs.Telling.{Fitted, Replied, Tells, asksList, isCounted, replyLine, toldWith};
 use netlist::loose_on;
 use netlist::write_list_on;
 use redraw::Edited;
@@ -71,6 +71,19 @@ fn put_fitting(out: &mut [u8], at: usize, line: &[u8]) -> usize
     at
 }
 
+// The answer line of an edit, with hit and lost or without, if it fits; and how many bytes it is.
+fn put_reply(out: &mut [u8], counts: bool, reply: u8, hit: u32, lost: u32) -> usize
+    ensures { λ r. ⌜ Replied (replyLine counts reply hit lost) (now (out .entry)) (now (out .exit)) r ⌝ }
+{
+    let mut line = [0u8; 40];
+    if counts {
+        let n = put_counted(&mut line, reply, hit, lost);
+        return put_fitting(out, 0, &line[..n]);
+    }
+    let n = put_answer(&mut line, reply);
+    put_fitting(out, 0, &line[..n])
+}
+
 // An edit's answer, with so many bytes printed.
 fn told(e: Edited, length: usize) -> Stepped
     ensures { λ r. ⌜ r ≡ toldWith e length ⌝ }
@@ -85,26 +98,6 @@ fn told(e: Edited, length: usize) -> Stepped
         lost: e.lost,
         length,
     }
-}
-
-// An edit that tells its reply alone.
-fn tell_plain(e: Edited, out: &mut [u8]) -> Stepped
-    ensures { λ r. ⌜ Tells (plainly e) (now (out .entry)) (now (out .exit)) r ⌝ }
-{
-    let mut line = [0u8; 40];
-    let n = put_answer(&mut line, e.reply);
-    let length = put_fitting(out, 0, &line[..n]);
-    told(e, length)
-}
-
-// An edit that tells its reply and how many contacts were hit and lost.
-fn tell_counts(e: Edited, out: &mut [u8]) -> Stepped
-    ensures { λ r. ⌜ Tells (countedly e) (now (out .entry)) (now (out .exit)) r ⌝ }
-{
-    let mut line = [0u8; 40];
-    let n = put_counted(&mut line, e.reply, e.hit, e.lost);
-    let length = put_fitting(out, 0, &line[..n]);
-    told(e, length)
 }
 
 // The list, and then `E <loose>`, of a drawing that was not refused; 8 where the list is longer than the buffer.
@@ -127,23 +120,53 @@ fn tell_list(e: Edited, out: &mut [u8]) -> Stepped
     told(e, length)
 }
 
-// What a command prints, of the edit that came of it.
-pub(crate) fn tell(e: Edited, command: Command, out: &mut [u8]) -> Stepped
-    requires { ⌜ (command ≡ Nets → e .reply ≡ 0 → Lawful (e .drawing)) ⌝ }
-    ensures { λ r. ⌜ Tells (Steps.told command e) (now (out .entry)) (now (out .exit)) r ⌝ }
+// Whether a command is answered with hit and lost: a turn or a mirror.
+fn tells_counts(command: Command) -> bool
+    ensures { λ r. ⌜ r ≡ isCounted command ⌝ }
 {
     match command {
         Command::Turn {
             x: _,
             y: _,
             size: _,
-        } => tell_counts(e, out),
+        } => true,
         Command::Mirror {
             x: _,
             y: _,
             size: _,
-        } => tell_counts(e, out),
-        Command::Nets => tell_list(e, out),
-        _ => tell_plain(e, out),
+        } => true,
+        _ => false,
+    }
+}
+
+// Whether a command asks for the list.
+pub fn asks_list(command: Command) -> bool
+    ensures { λ r. ⌜ r ≡ asksList command ⌝ }
+{
+    match command {
+        Command::Nets => true,
+        _ => false,
+    }
+}
+
+// What a command prints, of the edit that came of it.
+pub(crate) fn tell(e: Edited, command: Command, out: &mut [u8]) -> Stepped
+    requires { ⌜ (command ≡ Nets → e .reply ≡ 0 → Lawful (e .drawing)) ⌝ }
+    ensures { λ r. ⌜ Tells (Steps.told command e) (now (out .entry)) (now (out .exit)) r ⌝ }
+{
+    if asks_list(command) {
+        return tell_list(e, out);
+    }
+    let counts = tells_counts(command);
+    let length = put_reply(out, counts, e.reply, e.hit, e.lost);
+    let tally = e.tally;
+    let drawing = e.drawing;
+    Stepped {
+        reply: e.reply,
+        tally,
+        drawing,
+        hit: e.hit,
+        lost: e.lost,
+        length,
     }
 }
