@@ -1,20 +1,14 @@
--- A line leaves a lawful drawing lawful: `edit-lawful`, `step-lawful`. And `n` is answered 0 on a lawful drawing alone: `nets-lawful`.
-use mathlib.Core.Path.{_≡_, refl, sym, ap, subst, _∙_}
-use native.Mathlib.Omega.{arith}
-use lib.Dec.{T, eqb→eq}
-use mathlib.Core.Bool.{Bool, true, false}
+-- A line leaves a lawful drawing lawful: `edit-lawful`, `step-lawful`.
+use mathlib.Core.Path.{_≡_, refl, sym, subst}
+use mathlib.Core.Bool.{true, false}
 use mathlib.Core.Logic.{⊎-elim}
 use mathlib.Core.List.{List}
 use Prim.Native.Nat.{ℕ}
 use Rattle.lists.proofs.Tests.{decide, choose, eqb-reads}
 use Rattle.sheet.specs.declared.Drawing.{Drawing}
 use Rattle.sheet.specs.declared.Tally.{Tally}
-use Rattle.sheet.specs.Drawings.{Sized}
 use Rattle.sheet.specs.Rules.{Lawful}
-use Rattle.rules.specs.Check.{checkOf, lawful}
-use Rattle.rules.proofs.Check.{check-lawful}
 use Rattle.redraw.specs.declared.Edited.{Edited}
-use Rattle.redraw.specs.Calls.{refusedUnless}
 use Rattle.redraw.proofs.Laws.{Accepted, wire-accepted, component-accepted, delete-accepted, rotate-accepted, mirror-accepted}
 use Rattle.schematic.specs.Calls.{checked}
 use Rattle.schematic.proofs.Checking.{lawful-passes}
@@ -53,11 +47,3 @@ module _ {d : Drawing} (l : Lawful d) (t : Tally) where
   pub step-lawful : (line : List ℕ) → Lawful (stepOf d t line .outcome .drawing)
   unfolding stepOf
   step-lawful line = subst (λ (e : Edited). Lawful (e .drawing)) (sym (told-same (commandOf line) (editOf d t line (commandOf line)))) (edit-lawful line (commandOf line))
-
-pub nets-lawful : (d : Drawing) (t : Tally) (line : List ℕ) {k : Command} {e : Edited} → Sized d → e ≡ editOf d t line k → k ≡ Nets → e .reply ≡ 0 → Lawful (e .drawing)
-unfolding editOf checked
-nets-lawful d t line {k} {e} z is q = subst (λ (x : Edited). x .reply ≡ 0 → Lawful (x .drawing)) (sym (is ∙ ap (editOf d t line) q)) (go (lawful d) refl)
-  where
-    go : (b : Bool) → lawful d ≡ b → refusedUnless b 9 d t (unedited d t) .reply ≡ 0 → Lawful (refusedUnless b 9 d t (unedited d t) .drawing)
-    go true p r = check-lawful d z .0 (eqb→eq (checkOf d .rule) 0 (subst T (sym p) tt))
-    go false p r = absurd (omega arith)

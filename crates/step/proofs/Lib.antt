@@ -7,4 +7,5 @@ pub mod Kept
 pub mod Lawfulness
 mod Asking
 mod Commands
+mod Stepping
 pub mod Fitting

@@ -9,8 +9,7 @@ ghost use Rattle.sheet.specs.Drawings;
 ghost use Rattle.sheet.specs.Rules.{Lawful};
 ghost use Rattle.redraw.specs.Calls.{addComponent};
 ghost use Rattle.label.specs.Labels.{labelOf};
-ghost use Rattle.script.specs.Reading.{commandOf};
-ghost use Rattle.step.specs.Steps.{choiceOf, editOf, stepOf, inRoom, Answers};
+ghost use Rattle.step.specs.Steps.{choiceOf, stepOf, inRoom, Answers};
 ghost use Rattle.step.specs.Telling.{isReadable, Steps};
 use joints::drawn;
 use label::label_of;
@@ -70,29 +69,6 @@ fn place(d: Drawing, kind: i32, orient: i32, x: i32, y: i32, label: &[u8], t: Ta
     add_component_on(d, choice(kind), choice(orient), x, y, label_of(label), t)
 }
 
-// The edit that a line asks for, of a drawing known to be lawful; the command is the line's. `n` edits nothing.
-fn edit_on(d: Drawing, line: &[u8], command: Command, t: Tally) -> Edited
-    requires { ⌜ Lawful d ⌝ ∗ ⌜ command ≡ commandOf (now line) ⌝ }
-    ensures { λ r. ⌜ r ≡ editOf d t (now (line .entry)) command ⌝ }
-{
-    match command {
-        Command::Horizontal { y, x1, x2 } => add_wire_on(d, false, y, x1, x2, t),
-        Command::Vertical { x, y1, y2 } => add_wire_on(d, true, x, y1, y2, t),
-        Command::Place {
-            kind,
-            orient,
-            x,
-            y,
-            label,
-        } => place(d, kind, orient, x, y, &line[label..], t),
-        Command::Delete { x, y, size } => delete_on(d, x, y, size, t),
-        Command::Turn { x, y, size } => rotate_on(d, x, y, size, t),
-        Command::Mirror { x, y, size } => mirror_on(d, x, y, size, t),
-        Command::Nets => refused(0, d, t),
-        Command::Unreadable => refused(10, d, t),
-    }
-}
-
 // Whether a line was read.
 fn readable(command: Command) -> bool
     ensures { λ r. ⌜ r ≡ isReadable command ⌝ }
@@ -103,37 +79,51 @@ fn readable(command: Command) -> bool
     }
 }
 
-// The edit that a line asks for, of any drawing: 10, then 9, then as above.
-fn edit(d: Drawing, line: &[u8], command: Command, t: Tally) -> Edited
-    requires { ⌜ command ≡ commandOf (now line) ⌝ }
-    ensures { λ r. ⌜ r ≡ editOf d t (now (line .entry)) command ⌝ }
-{
-    if readable(command) {
-        let k = check(d);
-        if k.rule != 0 {
-            return refused(9, d, t);
-        }
-        return edit_on(d, line, command, t);
-    }
-    refused(10, d, t)
-}
-
-// What a line does to a drawing known to be lawful, and what it prints. 8,192 bytes always suffice: a list has at most 7,936.
+// What a line does to a drawing known to be lawful, and what it prints; `n` edits nothing. 8,192 bytes always suffice: a list has at most
+// 7,936.
 pub fn step_on(d: Drawing, line: &[u8], t: Tally, out: &mut [u8]) -> Stepped
     requires { ⌜ Lawful d ⌝ }
     ensures { λ r. ⌜ Steps d t (now (line .entry)) (now (out .entry)) (now (out .exit)) r ⌝ }
 {
     let command = read_line(line);
-    let e = edit_on(d, line, command, t);
-    tell(e, command, out)
+    match command {
+        Command::Horizontal { y, x1, x2 } => {
+            tell(add_wire_on(d, false, y, x1, x2, t), command, out)
+        }
+        Command::Vertical { x, y1, y2 } => {
+            tell(add_wire_on(d, true, x, y1, y2, t), command, out)
+        }
+        Command::Place {
+            kind,
+            orient,
+            x,
+            y,
+            label,
+        } => tell(
+            place(d, kind, orient, x, y, &line[label..], t),
+            command,
+            out,
+        ),
+        Command::Delete { x, y, size } => tell(delete_on(d, x, y, size, t), command, out),
+        Command::Turn { x, y, size } => tell(rotate_on(d, x, y, size, t), command, out),
+        Command::Mirror { x, y, size } => tell(mirror_on(d, x, y, size, t), command, out),
+        Command::Nets => tell(refused(0, d, t), command, out),
+        Command::Unreadable => tell(refused(10, d, t), command, out),
+    }
 }
 
 // A script line of a lent drawing: 10, 9, then as the edit that it asks for, for `n` 8 last. Two wrong answers that this rules out:
-// 9 told of an unreadable line, and an edit acknowledged that is not made (must-fail/ has more).
+// 9 told of an unreadable line, and a line made on a drawing that is not lawful (must-fail/ has more).
 pub fn step(d: Drawing, line: &[u8], t: Tally, out: &mut [u8]) -> Stepped
     ensures { λ r. ⌜ Answers (inRoom (length (now (out .entry))) (stepOf d t (now (line .entry)))) (now (out .entry)) (now (out .exit)) r ⌝ }
 {
     let command = read_line(line);
-    let e = edit(d, line, command, t);
-    tell(e, command, out)
+    if readable(command) {
+        let k = check(d);
+        if k.rule != 0 {
+            return tell(refused(9, d, t), command, out);
+        }
+        return step_on(d, line, t, out);
+    }
+    tell(refused(10, d, t), command, out)
 }
