@@ -34,5 +34,5 @@ module _ (d : Drawing) (t : Tally) (line : List ℕ) {k : Command} {e : Edited} 
   lawful-told l is-e _ _ = subst (λ (x : Edited). Lawful (x .drawing)) (sym is-e) (edit-lawful l t line k)
 
 -- a refusal prints no list
-pub refused-told : (n : ℕ) {d : Drawing} {t : Tally} {k : Command} {e : Edited} → (n ≡ 0 → ⊥) → e ≡ refused n d t → k ≡ Nets → e .reply ≡ 0 → Lawful (e .drawing)
-refused-told n f is _ z = absurd (f (sym (ap (λ (x : Edited). x .reply) is) ∙ z))
+pub refused-told : {n : ℕ} {d : Drawing} {t : Tally} {k : Command} {e : Edited} → e ≡ refused n d t → (n ≡ 0 → ⊥) → k ≡ Nets → e .reply ≡ 0 → Lawful (e .drawing)
+refused-told is f _ z = absurd (f (sym (ap (λ (x : Edited). x .reply) is) ∙ z))

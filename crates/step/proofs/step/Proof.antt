@@ -10,7 +10,7 @@ use Rattle.step.proofs.step.Statement.{statement}
 use Rattle.step.proofs.step.Tie as tie
 
 tell-requires : tie.Need-tell-requires
-tell-requires c κs = refused-told 9 (λ z. omega arith) (c .before .refused .ensures)
+tell-requires c κs = refused-told (c .before .refused .ensures) (λ z. omega arith)
 
 returns : tie.Need-returns
 returns c =
@@ -18,20 +18,20 @@ returns c =
     let r = k .before .before in
     let s = r .before .before .before .before in
     let a = s .args in
-    let nine = unlawful (a .d) (a .t) (a .line .now) (k .check .ensures) (c .before .before .before .before .before .if2 .taken) (r .before .read-line .result) (sym (r .readable .ensures) ∙ k .before .if1 .taken) in
+    let nine = unlawful (a .d) (a .t) (a .line .now) (k .check .ensures) (λ z. omega (arith, z, c .before .before .before .before .before .if2 .taken)) (r .before .read-line .result) (sym (r .readable .ensures) ∙ k .before .if1 .taken) in
     answers-line (a .d) (a .t) (a .line .now) (r .before .read-line .ensures) (c .before .before .before .before .refused .ensures ∙ nine) (c .before .before .tell .ensures)
 
 step-on-requires : tie.Need-step-on-requires
 step-on-requires c κs =
     let k = c .before .before .before in
     let s = k .before .before .before .before .before .before in
-    lawful-found (s .args .d) (k .check .ensures) (owned _ _ (s .good .0 .1 .1)) (c .before .if2 .left)
+    lawful-found (s .args .d) (k .check .ensures) (owned _ _ (s .good .0 .1 .1)) (omega (arith, c .before .if2 .left))
 
 returns-2 : tie.Need-returns-2
 returns-2 c = c .before .before .step-on .ensures .tells .answers
 
 tell-requires-2 : tie.Need-tell-requires-2
-tell-requires-2 c κs = refused-told 10 (λ z. omega arith) (c .before .refused2 .ensures)
+tell-requires-2 c κs = refused-told (c .before .refused2 .ensures) (λ z. omega arith)
 
 returns-3 : tie.Need-returns-3
 returns-3 c =
