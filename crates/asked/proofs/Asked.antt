@@ -9,6 +9,8 @@ use lib.IntN.{ℤ}
 use lib.Signed.{leZ}
 use Rattle.edge.specs.Coordinates.{biased, ranged, toℕ, sizeOf}
 use Rattle.symbol.specs.Symbols.{knownSymbol}
+use Rattle.symbol.specs.Replies.{pointReply, wireReply, pointerReply, symbolReply, componentReply}
+use Rattle.symbol.proofs.Replies.{three, five}
 use Rattle.label.specs.declared.Label.{Label}
 use Rattle.label.specs.declared.Held.{Held}
 use Rattle.label.specs.Labels.{heldLabel}
@@ -24,7 +26,7 @@ module _ (v : Bool) (l s e : ℤ) {a b c : Found} (p : Tells (ranged 6000 l) (bi
   tested = λ i. p .inside-is i && (q .inside-is i && r .inside-is i)
 
   pub far-wire : not (a .inside && (b .inside && c .inside)) ≡ true → noWire 1 ≡ askedWire v l s e
-  unfolding askedWire
+  unfolding askedWire wireReply
   far-wire t = rw (sym tested ∙ not-true _ t)
 
   module _ (t : not (a .inside && (b .inside && c .inside)) ≡ false) where
@@ -32,11 +34,11 @@ module _ (v : Bool) (l s e : ℤ) {a b c : Found} (p : Tells (ranged 6000 l) (bi
     near = sym tested ∙ not-false _ t
 
     pub backward-wire : leZ s e ≡ false → noWire 2 ≡ askedWire v l s e
-    unfolding askedWire
+    unfolding askedWire wireReply
     backward-wire u = rw (near, u)
 
     pub asked-wire : leZ s e ≡ true → _≡_ {A = AskedWire} (record { reply = 0; wire = record { vertical = v; line = a .at; start = b .at; end = c .at } }) (askedWire v l s e)
-    unfolding askedWire
+    unfolding askedWire wireReply
     asked-wire u =
         let x = both (ranged 6000 l) (ranged 6000 s && ranged 6000 e) near in
         let y = both (ranged 6000 s) (ranged 6000 e) (x .1) in
@@ -44,7 +46,7 @@ module _ (v : Bool) (l s e : ℤ) {a b c : Found} (p : Tells (ranged 6000 l) (bi
 
 module _ (k : ℕ) (o : ℕ) (x y : ℤ) (l : Label) {j : Bool} (w : j ≡ knownSymbol k o) where
   pub unknown-part : not j ≡ true → noPart 4 ≡ askedPart k o x y l
-  unfolding askedPart
+  unfolding askedPart componentReply symbolReply pointReply
   unknown-part t = rw (sym w ∙ not-true _ t)
 
   module _ (t : not j ≡ false) {a b : Found} (p : Tells (ranged 5800 x) (biased x) a) (q : Tells (ranged 5800 y) (biased y) b) where
@@ -55,7 +57,7 @@ module _ (k : ℕ) (o : ℕ) (x y : ℤ) (l : Label) {j : Bool} (w : j ≡ known
     placed = λ i. p .inside-is i && q .inside-is i
 
     pub far-part : not (a .inside && b .inside) ≡ true → noPart 1 ≡ askedPart k o x y l
-    unfolding askedPart
+    unfolding askedPart componentReply symbolReply pointReply
     far-part u = rw (sort, sym placed ∙ not-true _ u)
 
     module _ (u : not (a .inside && b .inside) ≡ false) {h : Held} (e : h ≡ heldLabel l) where
@@ -66,11 +68,11 @@ module _ (k : ℕ) (o : ℕ) (x y : ℤ) (l : Label) {j : Bool} (w : j ≡ known
       reply = λ i. e i .reply
 
       pub unlabelled-part : (h .reply ≡ 0 → ⊥) → noPart 5 ≡ askedPart k o x y l
-      unfolding askedPart
-      unlabelled-part f = rw (sort, in-place, ne-eqb (heldLabel l .reply) 0 (λ z. f (reply ∙ z)))
+      unfolding askedPart componentReply symbolReply pointReply
+      unlabelled-part f = rw (sort, in-place, five l (ne-eqb (heldLabel l .reply) 0 (λ z. f (reply ∙ z))))
 
       pub asked-part : h .reply ≡ 0 → _≡_ {A = AskedPart} (record { reply = 0; part = record { kind = k; orientation = o; x = a .at; y = b .at; label = h .bytes } }) (askedPart k o x y l)
-      unfolding askedPart
+      unfolding askedPart componentReply symbolReply pointReply
       asked-part z =
           let s = both (ranged 5800 x) (ranged 5800 y) in-place in
           rw (sort, in-place, eq-eqb (heldLabel l .reply) 0 (sym reply ∙ z)) (λ i. record { reply = 0; part = record { kind = k; orientation = o; x = p .number (s .0) i; y = q .number (s .1) i; label = e i .bytes } })
@@ -80,7 +82,7 @@ module _ (x y n : ℤ) {a b c : Found} (p : Tells (ranged 6000 x) (biased x) a) 
   pointed = λ i. p .inside-is i && q .inside-is i
 
   pub far-pointer : not (a .inside && b .inside) ≡ true → noPointer 1 ≡ askedPointer x y n
-  unfolding askedPointer
+  unfolding askedPointer pointerReply pointReply
   far-pointer t = rw (sym pointed ∙ not-true _ t)
 
   module _ (t : not (a .inside && b .inside) ≡ false) where
@@ -88,11 +90,11 @@ module _ (x y n : ℤ) {a b c : Found} (p : Tells (ranged 6000 x) (biased x) a) 
     in-reach = sym pointed ∙ not-false _ t
 
     pub sizeless-pointer : not (c .inside) ≡ true → noPointer 3 ≡ askedPointer x y n
-    unfolding askedPointer
-    sizeless-pointer u = rw (in-reach, sym (r .inside-is) ∙ not-true _ u)
+    unfolding askedPointer pointerReply pointReply
+    sizeless-pointer u = rw (in-reach, three n (sym (r .inside-is) ∙ not-true _ u))
 
     pub asked-pointer : not (c .inside) ≡ false → _≡_ {A = AskedPointer} (record { reply = 0; point = record { x = a .at; y = b .at }; size = c .at }) (askedPointer x y n)
-    unfolding askedPointer
+    unfolding askedPointer pointerReply pointReply
     asked-pointer u =
         let s = both (ranged 6000 x) (ranged 6000 y) in-reach in
         let z : eqb (sizeOf n .reply) 0 ≡ true = sym (r .inside-is) ∙ not-false _ u in

@@ -12,6 +12,7 @@ use Rattle.edge.specs.Coordinates.{biased, ranged, insideOf, toℕ, sizeIs, noS
 use Rattle.edge.proofs.Whole.{toℕ-sub}
 use Rattle.edge.proofs.Places.{lifted, narrow-test}
 use Rattle.symbol.specs.Symbols.{knownSymbol}
+use Rattle.symbol.proofs.Replies.{wire-nested, pointer-nested, component-nested}
 use Rattle.label.specs.declared.Label.{Label}
 use Rattle.label.specs.Labels.{heldLabel}
 use Rattle.label.proofs.Accepted.{accepted-holds}
@@ -56,7 +57,7 @@ sized (pos n) e = go (leb n 1000) refl e
 module _ (v : Bool) (l s e : ℤ) where
   pub wire-drawable : {a : AskedWire} → a ≡ askedWire v l s e → a .reply ≡ 0 → Drawable (a .wire)
   unfolding askedWire
-  wire-drawable q = subst (λ (a : AskedWire). a .reply ≡ 0 → Drawable (a .wire)) (sym q) (go (ranged 6000 l && (ranged 6000 s && ranged 6000 e)) (leZ s e) refl refl)
+  wire-drawable q = subst (λ (a : AskedWire). a .reply ≡ 0 → Drawable (a .wire)) (sym (q ∙ wire-nested noWire (record { reply = 0; wire = wireAt v l s e }) l s e)) (go (ranged 6000 l && (ranged 6000 s && ranged 6000 e)) (leZ s e) refl refl)
     where
       A : Bool → Bool → AskedWire
       A a b = cond a (cond b (record { reply = 0; wire = wireAt v l s e }) (noWire 2)) (noWire 1)
@@ -72,7 +73,7 @@ module _ (v : Bool) (l s e : ℤ) where
 module _ (k : ℕ) (o : ℕ) (x y : ℤ) (l : Label) where
   pub part-fits : {a : AskedPart} → a ≡ askedPart k o x y l → a .reply ≡ 0 → PartFits (a .part)
   unfolding askedPart
-  part-fits q = subst (λ (a : AskedPart). a .reply ≡ 0 → PartFits (a .part)) (sym q) (go (knownSymbol k o) (ranged 5800 x && ranged 5800 y) (eqb (heldLabel l .reply) 0) refl refl refl)
+  part-fits q = subst (λ (a : AskedPart). a .reply ≡ 0 → PartFits (a .part)) (sym (q ∙ component-nested noPart (record { reply = 0; part = componentAt k o x y l }) k o x y l)) (go (knownSymbol k o) (ranged 5800 x && ranged 5800 y) (eqb (heldLabel l .reply) 0) refl refl refl)
     where
       A : Bool → Bool → Bool → AskedPart
       A a b c = cond a (cond b (cond c (record { reply = 0; part = componentAt k o x y l }) (noPart 5)) (noPart 1)) (noPart 4)
@@ -95,7 +96,7 @@ pub record Near (a : AskedPointer) : Type 0 where
 module _ (x y n : ℤ) where
   pub pointer-near : {a : AskedPointer} → a ≡ askedPointer x y n → a .reply ≡ 0 → Near a
   unfolding askedPointer
-  pointer-near q = subst (λ (a : AskedPointer). a .reply ≡ 0 → Near a) (sym q) (go (ranged 6000 x && ranged 6000 y) (eqb (sizeOf n .reply) 0) refl refl)
+  pointer-near q = subst (λ (a : AskedPointer). a .reply ≡ 0 → Near a) (sym (q ∙ pointer-nested noPointer (record { reply = 0; point = pointAt x y; size = toℕ n }) x y n)) (go (ranged 6000 x && ranged 6000 y) (eqb (sizeOf n .reply) 0) refl refl)
     where
       A : Bool → Bool → AskedPointer
       A a b = cond a (cond b (record { reply = 0; point = pointAt x y; size = toℕ n }) (noPointer 3)) (noPointer 1)

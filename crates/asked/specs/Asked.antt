@@ -1,15 +1,13 @@
--- What a caller asks for, as rows hold it, and the refusals that the numbers alone decide, in document 01's order: 4, 1, 2, 3, 5.
+-- What a caller asks for, as rows hold it, or the refusal that what is asked alone decides (`Replies`).
 use Prim.Native.Nat.{ℕ}
-use mathlib.Core.Bool.{Bool, _&&_, cond}
-use lib.Dec.{eqb}
+use mathlib.Core.Bool.{Bool}
 use lib.IntN.{ℤ}
-use lib.Signed.{leZ}
-pub use Rattle.edge.specs.Coordinates.{ranged}
-use Rattle.edge.specs.Coordinates.{biased, toℕ, sizeOf}
+use Rattle.edge.specs.Coordinates.{biased, toℕ}
 use Rattle.label.specs.declared.Label.{Label}
 use Rattle.label.specs.Labels.{heldLabel}
 use Rattle.symbol.specs.declared.Point.{Point}
-use Rattle.symbol.specs.Symbols.{unused, knownSymbol}
+use Rattle.symbol.specs.Symbols.{unused}
+use Rattle.symbol.specs.Replies.{granted, wireReply, pointerReply, componentReply}
 use Rattle.sheet.specs.declared.Wire.{Wire}
 use Rattle.sheet.specs.declared.Component.{Component}
 use Rattle.sheet.specs.Drawings.{zeroWire, zeroComponent}
@@ -27,12 +25,9 @@ wireAt vertical line start end = record { vertical = vertical; line = biased lin
 abbrev pub noWire : ℕ → AskedWire
 noWire n = record { reply = n; wire = zeroWire }
 
--- "1: a coordinate outside its range", "2: wire start greater than its end"
+-- the wire, or 1 or 2
 unfoldable pub askedWire : Bool → ℤ → ℤ → ℤ → AskedWire
-askedWire vertical line start end =
-    cond (ranged 6000 line && (ranged 6000 start && ranged 6000 end))
-    (cond (leZ start end) (record { reply = 0; wire = wireAt vertical line start end }) (noWire 2))
-    (noWire 1)
+askedWire vertical line start end = granted (wireReply line start end) noWire (record { reply = 0; wire = wireAt vertical line start end })
 
 -- ---- a component
 
@@ -44,12 +39,9 @@ componentAt kind o x y label = record { kind = kind; orientation = o; x = biased
 abbrev pub noPart : ℕ → AskedPart
 noPart n = record { reply = n; part = zeroComponent }
 
--- 4: "unknown kind", or as orientation "a number outside 0 to 7" (document 02, P1); 5: "label too long or with another byte"
+-- the component, or 4, 1 or 5
 unfoldable pub askedPart : ℕ → ℕ → ℤ → ℤ → Label → AskedPart
-askedPart kind o x y label =
-    cond (knownSymbol kind o)
-    (cond (ranged 5800 x && ranged 5800 y) (cond (eqb (heldLabel label .reply) 0) (record { reply = 0; part = componentAt kind o x y label }) (noPart 5)) (noPart 1))
-    (noPart 4)
+askedPart kind o x y label = granted (componentReply kind o x y label) noPart (record { reply = 0; part = componentAt kind o x y label })
 
 -- ---- a pointer and its size
 
@@ -61,9 +53,6 @@ pointAt x y = record { x = biased x; y = biased y }
 abbrev pub noPointer : ℕ → AskedPointer
 noPointer n = record { reply = n; point = unused; size = 0 }
 
--- "3: size outside its range"
+-- the pointer and its size, or 1 or 3
 unfoldable pub askedPointer : ℤ → ℤ → ℤ → AskedPointer
-askedPointer x y size =
-    cond (ranged 6000 x && ranged 6000 y)
-    (cond (eqb (sizeOf size .reply) 0) (record { reply = 0; point = pointAt x y; size = toℕ size }) (noPointer 3))
-    (noPointer 1)
+askedPointer x y size = granted (pointerReply x y size) noPointer (record { reply = 0; point = pointAt x y; size = toℕ size })

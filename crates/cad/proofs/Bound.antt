@@ -1,11 +1,11 @@
 -- Each shape that a component, a wire or a joint answers has its coordinates within 1/4,096 of the exact sums, whole where those are whole, and never -0;
 -- radius and width of a component's shape are the symbol's.
-use mathlib.Core.Path.{_≡_, refl, subst}
+use mathlib.Core.Path.{_≡_, refl, sym, subst, _∙_}
 use Prim.Native.Nat.{ℕ, zero, suc, _≤_}
 use mathlib.Core.Bool.{Bool, true, false, _&&_, cond}
 use mathlib.Core.List.{List, [], _∷_, map, List·Memᴰ·head as ∈-head, List·Memᴰ·tail as ∈-tail}
 use lib.Dec.{T, leb, ltb, eqb, leb→le, ltb→lt}
-use lib.Signed.{ltZ}
+use lib.Signed.{leZ}
 use lib.IntN.{ℤ, natAbs}
 use Rattle.lists.specs.Lists.{_∈_}
 use Rattle.lists.proofs.Tests.{Reads, pass, fail, test, both-l, both-r}
@@ -21,6 +21,7 @@ use Rattle.draw.specs.declared.Draw.the-variants.{Line, Circle}
 use Rattle.draw.proofs.Bound.{transform-close, mark-point}
 use Rattle.edge.specs.Coordinates.{ranged}
 use Rattle.symbol.specs.Symbols.{knownSymbol}
+use Rattle.symbol.proofs.Replies.{point-nested, wire-nested, component-nested}
 use Rattle.draw.specs.Answers.{shapeIs, no-shape, asked}
 use Rattle.draw.proofs.Answers.{one-draw, no-draw}
 use Rattle.cad.specs.Answers.{refusedShape}
@@ -36,7 +37,9 @@ found o x y (d ∷ ds) (suc i) r h e = let s = found o x y ds i r (λ d m. h d (
 
 pub component-close : ComponentClose
 unfolding componentShape
-component-close kind n x y label i a b r = go (test (knownSymbol kind n)) (test (ranged 5800 x && ranged 5800 y)) (test (eqb (heldLabel label .reply) 0))
+component-close kind n x y label i a b r e =
+    go (test (knownSymbol kind n)) (test (ranged 5800 x && ranged 5800 y)) (test (eqb (heldLabel label .reply) 0))
+    (sym (component-nested refusedShape (asked i (map (transformOf (eighth n) (floatPosition x y)) (drawsOf kind a b))) kind n x y label) ∙ e)
   where
     go : {t u v : Bool} → Reads (T (knownSymbol kind n)) t → Reads (T (ranged 5800 x && ranged 5800 y)) u → Reads (T (eqb (heldLabel label .reply) 0)) v
         → cond t (cond u (cond v (asked i (map (transformOf (eighth n) (floatPosition x y)) (drawsOf kind a b))) (refusedShape 5)) (refusedShape 1)) (refusedShape 4) ≡ shapeIs r → Shown (eighth n) x y i (drawsOf kind a b) r
@@ -58,22 +61,22 @@ wire-ends line start end t =
 
 pub wire-close : WireClose
 unfolding wireShape
-wire-close vertical line start end r = go vertical (test (ranged 6000 line && (ranged 6000 start && ranged 6000 end))) (test (ltZ end start))
+wire-close vertical line start end r e = go vertical (test (ranged 6000 line && (ranged 6000 start && ranged 6000 end))) (test (leZ start end)) (sym (wire-nested refusedShape _ line start end) ∙ e)
   where
-    go : (v : Bool) {t u : Bool} → Reads (T (ranged 6000 line && (ranged 6000 start && ranged 6000 end))) t → Reads (T (ltZ end start)) u
-        → cond t (cond u (refusedShape 2) (cond v (shapeIs (Line (floatPosition line start) (floatPosition line end) (whole 6))) (shapeIs (Line (floatPosition start line) (floatPosition end line) (whole 6))))) (refusedShape 1) ≡ shapeIs r → WireMark v line start end r
-    go true (pass p) (fail l) e =
+    go : (v : Bool) {t u : Bool} → Reads (T (ranged 6000 line && (ranged 6000 start && ranged 6000 end))) t → Reads (T (leZ start end)) u
+        → cond t (cond u (cond v (shapeIs (Line (floatPosition line start) (floatPosition line end) (whole 6))) (shapeIs (Line (floatPosition start line) (floatPosition end line) (whole 6)))) (refusedShape 2)) (refusedShape 1) ≡ shapeIs r → WireMark v line start end r
+    go true (pass p) (pass l) e =
         let h = wire-ends line start end p in
         subst (CloseMark line start line end) (one-draw (Line (floatPosition line start) (floatPosition line end) (whole 6)) r e) (stroke (mark-point line start (h .0) (h .1 .0)) (mark-point line end (h .0) (h .1 .1)))
-    go false (pass p) (fail l) e =
+    go false (pass p) (pass l) e =
         let h = wire-ends line start end p in
         subst (CloseMark start line end line) (one-draw (Line (floatPosition start line) (floatPosition end line) (whole 6)) r e) (stroke (mark-point start line (h .1 .0) (h .0)) (mark-point end line (h .1 .1) (h .0)))
-    go v (pass p) (pass l) e = absurd (no-refusal 1 r e)
+    go v (pass p) (fail l) e = absurd (no-refusal 1 r e)
     go v (fail p) l e = absurd (no-refusal 0 r e)
 
 pub junction-close : JunctionClose
 unfolding junctionShape
-junction-close x y count r = go (test (ranged 6000 x && ranged 6000 y)) (test (leb 3 count)) (test (eqb count 1))
+junction-close x y count r e = go (test (ranged 6000 x && ranged 6000 y)) (test (leb 3 count)) (test (eqb count 1)) (sym (point-nested refusedShape _ 6000 x y) ∙ e)
   where
     go : {t u v : Bool} → Reads (T (ranged 6000 x && ranged 6000 y)) t → Reads (T (leb 3 count)) u → Reads (T (eqb count 1)) v
         → cond t (cond u (shapeIs (Line (floatPosition x y) (floatPosition x y) (whole 40))) (cond v (shapeIs (Circle (floatPosition x y) (whole 10) (whole 1))) no-shape)) (refusedShape 1) ≡ shapeIs r → CloseMark x y x y r

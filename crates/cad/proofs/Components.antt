@@ -11,6 +11,8 @@ use Rattle.label.specs.declared.Label.{Label}
 use Rattle.label.specs.declared.Held.{Held}
 use Rattle.edge.specs.Coordinates.{ranged}
 use Rattle.symbol.specs.Symbols.{knownSymbol}
+use Rattle.symbol.specs.Replies.{pointReply, symbolReply, componentReply}
+use Rattle.symbol.proofs.Replies.{five}
 use Rattle.draw.specs.Answers.{Answer, shapeIs, no-shape, chosen, asked}
 use Rattle.draw.specs.Symbols.{drawsOf}
 use Rattle.draw.specs.Transforms.{floatPosition, transformOf}
@@ -28,7 +30,7 @@ module _ (kind : ℕ) (o : ℕ) where
   symbol-test K t = sym K ∙ t
 
   pub unknown : (x y : ℤ) (label : Label) (i : ℕ) (a b : Bool) {k : Bool} → k ≡ knownSymbol kind o → k ≡ false → refusedShape 4 ≡ componentShape kind o x y label i a b
-  unfolding componentShape
+  unfolding componentShape componentReply symbolReply pointReply
   unknown x y label i a b K t = simp (symbol-test K t)
 
   module _ {x y : ℤ} (label : Label) (i : ℕ) (a b : Bool) {k p q : Bool} (K : k ≡ knownSymbol kind o) (t : k ≡ true) (X : Tested 5800 x p) (Y : Tested 5800 y q) where
@@ -39,17 +41,17 @@ module _ (kind : ℕ) (o : ℕ) where
     place-test u = sym (λ j. X .is j && Y .is j) ∙ u
 
     pub off-sheet : (p && q) ≡ false → Right (refusedShape 1)
-    unfolding componentShape
+    unfolding componentShape componentReply symbolReply pointReply
     off-sheet u = simp (symbol-test K t, place-test u)
 
     module _ {h : Held} (u : (p && q) ≡ true) (H : h ≡ heldLabel label) where
       pub mislabelled : (h .reply ≡ 0 → ⊥) → Right (refusedShape 5)
-      unfolding componentShape
-      mislabelled f = simp (symbol-test K t, place-test u, ne-eqb (heldLabel label .reply) 0 (λ r. f ((λ j. H j .reply) ∙ r)))
+      unfolding componentShape componentReply symbolReply pointReply
+      mislabelled f = simp (symbol-test K t, place-test u, five label (ne-eqb (heldLabel label .reply) 0 (λ r. f ((λ j. H j .reply) ∙ r))))
 
       module _ (g : h .reply ≡ 0) (r : Choice) (R : chosen r ≡ asked i (drawsOf kind a b)) where
         good : Right (asked i (map (transformOf (eighth o) (floatPosition x y)) (drawsOf kind a b)))
-        unfolding componentShape
+        unfolding componentShape componentReply symbolReply pointReply
         good = simp (symbol-test K t, place-test u, eq-eqb (heldLabel label .reply) 0 (sym (λ j. H j .reply) ∙ g))
 
         pub past : r ≡ Nothing → Right no-shape

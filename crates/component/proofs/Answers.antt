@@ -21,8 +21,9 @@ use Rattle.symbol.specs.declared.Point.{Point}
 use Rattle.symbol.specs.declared.PadsReply.{PadsReply}
 use Rattle.symbol.specs.declared.BoundsReply.{BoundsReply}
 use Rattle.symbol.proofs.Symbols.{refuse, tests-placeable}
+use Rattle.symbol.proofs.Replies.{symbol-nested}
 use Rattle.symbol.proofs.Exact.{near, high-near, exact}
-use Rattle.component.specs.Answers.{origin, positionOf, answer, componentPadsOf, spanned, componentBoxOf, heldOf, shownOf}
+use Rattle.component.specs.Answers.{origin, positionOf, answer, componentPadsOf, spanned, noBox, componentBoxOf, heldOf, shownOf}
 use Rattle.component.specs.declared.Position.{Position}
 use Rattle.component.specs.declared.PadsAnswer.{PadsAnswer}
 use Rattle.component.specs.declared.BoxAnswer.{BoxAnswer}
@@ -108,12 +109,14 @@ module _ (kind : ℕ) (o : ℕ) (x y : ℤ) where
   pads-shown =
       let f : ℕ → PadsAnswer = λ n. shownPads (padsFor n (padBlock kind (eighth o) (heldOf x) (heldOf y))) in
       ap f (sym (reply kind o x y)) ∙ by-reply (knownSymbol kind o) (ranged 5800 x && ranged 5800 y) f (pads-right kind o x y) refl refl
+      ∙ sym (symbol-nested (λ r. answer r []) (answer 0 (map (positionOf (eighth o) x y) (padsAt kind))) kind o x y)
 
   box-shown : shownBox (aabbOf kind o (heldOf x) (heldOf y)) ≡ componentBoxOf kind o x y
   unfolding aabbOf componentBoxOf
   box-shown =
       let f : ℕ → BoxAnswer = λ n. shownBox (boundsFor n (boundsAt kind (eighth o) (heldOf x) (heldOf y))) in
       ap f (sym (reply kind o x y)) ∙ by-reply (knownSymbol kind o) (ranged 5800 x && ranged 5800 y) f box-right refl refl
+      ∙ sym (symbol-nested noBox (spanned (positionOf (eighth o) x y (lowAt kind)) (positionOf (eighth o) x y (highAt kind))) kind o x y)
 
   -- ---- what `component_pads` and `component_box` return, by what their calls ensure
   module _ (f : SFits w32 x) (g : SFits w32 y) (m n : ℕ) (em : m ≡ heldOf (toZ w32 (ofZ w32 x))) (en : n ≡ heldOf (toZ w32 (ofZ w32 y))) where

@@ -1,6 +1,6 @@
 -- The pads and the box of a component as document 01 has them, over whole numbers alone.
 use Prim.Native.Nat.{ℕ}
-use mathlib.Core.Bool.{Bool, _&&_, cond}
+use mathlib.Core.Bool.{Bool, cond}
 use mathlib.Core.List.{List, [], _∷_, _++_, map}
 use lib.IntN.{ℤ, pos, _+ℤ_}
 use lib.Signed.{leZ}
@@ -9,7 +9,8 @@ use Rattle.orientation.specs.declared.RotMirror.{RotMirror}
 use Rattle.orientation.specs.Orientations.{eighth}
 use Rattle.edge.specs.Coordinates.{coordOf, biased, ranged}
 use Rattle.symbol.specs.declared.Point.{Point}
-use Rattle.symbol.specs.Symbols.{Offset, applied, knownSymbol, padsAt, lowAt, highAt}
+use Rattle.symbol.specs.Symbols.{Offset, applied, padsAt, lowAt, highAt}
+use Rattle.symbol.specs.Replies.{granted, symbolReply}
 use Rattle.component.specs.declared.Position.{Position}
 use Rattle.component.specs.declared.PadsAnswer.{PadsAnswer}
 use Rattle.component.specs.declared.BoxAnswer.{BoxAnswer}
@@ -29,7 +30,7 @@ answer n ps = record { reply = n; points = take 3 (ps ++ (origin ∷ origin ∷ 
 -- "Component position: −5,800 to 5,800." "A box, pads or a turn asked of a bad kind, orientation or position get 4 or 1, in that order,
 -- and zeros for every number."
 unfoldable pub componentPadsOf : ℕ → ℕ → ℤ → ℤ → PadsAnswer
-componentPadsOf kind n x y = cond (knownSymbol kind n) (cond (ranged 5800 x && ranged 5800 y) (answer 0 (map (positionOf (eighth n) x y) (padsAt kind))) (answer 1 [])) (answer 4 [])
+componentPadsOf kind n x y = granted (symbolReply kind n x y) (λ r. answer r []) (answer 0 (map (positionOf (eighth n) x y) (padsAt kind)))
 
 -- the lesser of two whole numbers
 abbrev pub minZ : ℤ → ℤ → ℤ
@@ -49,7 +50,7 @@ noBox n = record { reply = n; low = origin; high = origin }
 
 -- the box, or 4 or 1
 unfoldable pub componentBoxOf : ℕ → ℕ → ℤ → ℤ → BoxAnswer
-componentBoxOf kind n x y = cond (knownSymbol kind n) (cond (ranged 5800 x && ranged 5800 y) (spanned (positionOf (eighth n) x y (lowAt kind)) (positionOf (eighth n) x y (highAt kind))) (noBox 1)) (noBox 4)
+componentBoxOf kind n x y = granted (symbolReply kind n x y) noBox (spanned (positionOf (eighth n) x y (lowAt kind)) (positionOf (eighth n) x y (highAt kind)))
 
 -- ---- what the functions below the calls return
 

@@ -1,7 +1,7 @@
 -- The edits under the translation: what `Sheets` says of lists, through tables and refusals.
 use Prim.Native.Nat.{ℕ}
 use mathlib.Core.Bool.{Bool, true, false, _&&_, not}
-use mathlib.Core.Path.{_≡_, refl, ap, _∙_}
+use mathlib.Core.Path.{_≡_, refl, sym, ap, _∙_}
 use lib.Dec.{leb, ltb, eqb}
 use lib.IntN.{ℤ}
 use lib.Signed.{leZ}
@@ -13,6 +13,7 @@ use Rattle.orientation.proofs.Turns.{known-number}
 use Rattle.label.specs.declared.Label.{Label}
 use Rattle.label.specs.Labels.{heldLabel}
 use Rattle.symbol.specs.declared.Point.{Point}
+use Rattle.symbol.proofs.Replies.{wire-nested, pointer-nested, component-nested}
 use Rattle.sheet.specs.declared.Drawing.{Drawing}
 use Rattle.sheet.specs.declared.Tally.{Tally}
 use Rattle.sheet.specs.Parts.{touches}
@@ -53,6 +54,7 @@ module _ (d : Drawing) (t : Tally) where
       unless (ranged 6000 line && (ranged 6000 start && ranged 6000 end)) 1 (Number.refusedUnless (leZ start end) 2 d t (Number.edited d t o))
       (unless (leZ start end) 2 (Number.edited d t o)
       (after o (ap (λ (p : Plan). Four.quiet (FourEdits.wire w p)) (lists-same d) ∙ ap Four.quiet (same-wire w (listsOf d)))))
+      ∙ ap fourEdited (sym (wire-nested (λ r. Number.refused r d t) (Number.edited d t o) line start end))
 
   placed : (kind n : ℕ) (x y : ℤ) (b : Label) → Four.addComponent (fourDrawing d) kind (eighth n) x y b t ≡ fourEdited (Number.addComponent d kind n x y b t)
   unfolding Number.addComponent Four.addComponent
@@ -73,6 +75,7 @@ module _ (d : Drawing) (t : Tally) where
       (Four.refusedUnless (eqb (heldLabel b .reply) 0) 5 (fourDrawing d) t
       (Four.refusedUnless (free i) 6 (fourDrawing d) t (Four.edited (fourDrawing d) t (Four.quiet (FourEdits.placeOne (four c) (Plans.listsOf (fourDrawing d)))))))))
       ∙ unless (leb kind 2 && ltb n 8) 4 e4 (unless (ranged 5800 x && ranged 5800 y) 1 e1 (unless (eqb (heldLabel b .reply) 0) 5 e5 (unless (not (any (touches c) (s .parts))) 6 e6 rest)))
+      ∙ ap fourEdited (sym (component-nested (λ r. Number.refused r d t) e5 kind n x y b))
 
   -- an edit at a pointer, f of the plan's lists and g of the sheet's
   pointed : (x y size : ℤ) (f : Point → ℕ → Plan → FourEdits.Outcome) (g : Point → ℕ → Edits.Outcome) → ((p : Point) (n : ℕ) → f p n (fours (listsOf d)) ≡ fourOutcome (g p n))
@@ -84,6 +87,7 @@ module _ (d : Drawing) (t : Tally) where
       let o = g p n in
       unless (ranged 6000 x && ranged 6000 y) 1 (Number.refusedUnless (eqb (sizeOf size .reply) 0) 3 d t (Number.edited d t o))
       (unless (eqb (sizeOf size .reply) 0) 3 (Number.edited d t o) (after o (ap (f p n) (lists-same d) ∙ e p n)))
+      ∙ ap fourEdited (sym (pointer-nested (λ r. Number.refused r d t) (Number.edited d t o) x y size))
 
 pub same-edits : SameEdits
 unfolding Number.deleteAt Four.deleteAt Number.rotateAt Four.rotateAt Number.mirrorAt Four.mirrorAt

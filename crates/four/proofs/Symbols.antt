@@ -12,6 +12,7 @@ use Rattle.orientation.proofs.Turns.{Follows, eighth-right, eighth-left, eighth
 use Rattle.label.specs.declared.Label.{Label}
 use Rattle.label.specs.Labels.{heldLabel}
 use Rattle.symbol.specs.Symbols.{padsAt, lowAt, highAt}
+use Rattle.symbol.proofs.Replies.{symbol-nested, component-nested}
 use Rattle.component.specs.Answers.{positionOf, answer, spanned, noBox, componentPadsOf, componentBoxOf}
 use Rattle.draw.specs.Answers.{asked}
 use Rattle.draw.specs.Symbols.{drawsOf}
@@ -33,18 +34,22 @@ turns f t e n = (λ i. cond (known-number n i) (fourAre (sym (e n) i)) noFour) �
 module _ (kind n : ℕ) (x y : ℤ) where
   pads : Four.componentPads kind (eighth n) x y ≡ componentPadsOf kind n x y
   unfolding Four.componentPads componentPadsOf
-  pads = λ i. cond (leb kind 2 && known-number n i) (cond (ranged 5800 x && ranged 5800 y) (answer 0 (map (positionOf (eighth n) x y) (padsAt kind))) (answer 1 [])) (answer 4 [])
+  pads =
+      let a = answer 0 (map (positionOf (eighth n) x y) (padsAt kind)) in
+      (λ i. cond (leb kind 2 && known-number n i) (cond (ranged 5800 x && ranged 5800 y) a (answer 1 [])) (answer 4 [])) ∙ sym (symbol-nested (λ r. answer r []) a kind n x y)
 
   box : Four.componentBox kind (eighth n) x y ≡ componentBoxOf kind n x y
   unfolding Four.componentBox componentBoxOf
-  box = λ i. cond (leb kind 2 && known-number n i) (cond (ranged 5800 x && ranged 5800 y) (spanned (positionOf (eighth n) x y (lowAt kind)) (positionOf (eighth n) x y (highAt kind))) (noBox 1)) (noBox 4)
+  box =
+      let a = spanned (positionOf (eighth n) x y (lowAt kind)) (positionOf (eighth n) x y (highAt kind)) in
+      (λ i. cond (leb kind 2 && known-number n i) (cond (ranged 5800 x && ranged 5800 y) a (noBox 1)) (noBox 4)) ∙ sym (symbol-nested noBox a kind n x y)
 
   shape : (b : Label) (i : ℕ) (p q : Bool) → Four.componentShape kind (eighth n) x y b i p q ≡ componentShape kind n x y b i p q
   unfolding Four.componentShape componentShape
   shape b i p q =
-      λ j. cond (leb kind 2 && known-number n j)
-      (cond (ranged 5800 x && ranged 5800 y) (cond (eqb (heldLabel b .reply) 0) (asked i (map (transformOf (eighth n) (floatPosition x y)) (drawsOf kind p q))) (refusedShape 5)) (refusedShape 1))
-      (refusedShape 4)
+      let a = asked i (map (transformOf (eighth n) (floatPosition x y)) (drawsOf kind p q)) in
+      (λ j. cond (leb kind 2 && known-number n j) (cond (ranged 5800 x && ranged 5800 y) (cond (eqb (heldLabel b .reply) 0) a (refusedShape 5)) (refusedShape 1)) (refusedShape 4))
+      ∙ sym (component-nested refusedShape a kind n x y b)
 
 pub same-symbols : SameSymbols
 same-symbols = record {

@@ -11,8 +11,10 @@ use lib.Signed.{leZ, ≤ℤ-refl}
 use Rattle.lists.specs.Lists.{_∈_}
 use Rattle.lists.proofs.Appends.{length-keep}
 use Rattle.lists.proofs.Tests.{agree}
-use Rattle.edge.specs.Coordinates.{toℕ, sizeOf}
+use Rattle.edge.specs.Coordinates.{toℕ, ranged, sizeOf}
 use Rattle.symbol.specs.declared.Point.{Point}
+use Rattle.symbol.specs.Replies.{pointReply, wireReply, pointerReply}
+use Rattle.symbol.proofs.Replies.{pointer-nested}
 use Rattle.sheet.specs.declared.Wire.{Wire}
 use Rattle.sheet.specs.declared.Component.{Component}
 use Rattle.sheet.specs.declared.Drawing.{Drawing}
@@ -27,13 +29,13 @@ use Rattle.sheet.proofs.Edits.{remove-nothing}
 use Rattle.sheet.proofs.Run.{drawn-idle}
 use Rattle.sheet.proofs.Room.{remove-no-longer}
 use Rattle.sheet.proofs.Turn.{turn-lost, turn-nothing}
-use Rattle.asked.specs.Asked.{ranged, wireAt, pointAt}
+use Rattle.asked.specs.Asked.{wireAt, pointAt}
 use Rattle.edits.specs.Making.{quiet}
 use Rattle.redraw.specs.declared.Edited.{Edited}
 use Rattle.redraw.specs.declared.pointer.Act.{Act}
 use Rattle.redraw.specs.declared.pointer.Act.the-variants.{Delete, TurnRight, Mirror}
 use Rattle.redraw.specs.Acts.{acted}
-use Rattle.redraw.specs.Calls.{still, refusedUnless, edited, addWire, pointed, deleteAt}
+use Rattle.redraw.specs.Calls.{still, refused, refusedUnless, edited, addWire, pointed, deleteAt}
 use Rattle.redraw.proofs.Finishing.{edited-room}
 use Rattle.redraw.proofs.Asking.{pointer-decides}
 use Rattle.redraw.proofs.Laws.{by-reply, by-room}
@@ -74,7 +76,8 @@ module _ {d : Drawing} (l : Lawful d) (t : Tally) where
   unfolding deleteAt pointed
   delete-roomy x y n =
       let o = quiet (delete (pointAt x y) (toℕ n) (listsOf d)) in
-      go (ranged 6000 x && ranged 6000 y) (eqb (sizeOf n .reply) 0) (edited d t o) (subst NotFull (sym (edited-room d t o (delete-room (pointAt x y) (toℕ n)))) (below-seven 0 (omega arith)))
+      subst NotFull (sym (pointer-nested (λ r. refused r d t) (edited d t o) x y n))
+      (go (ranged 6000 x && ranged 6000 y) (eqb (sizeOf n .reply) 0) (edited d t o) (subst NotFull (sym (edited-room d t o (delete-room (pointAt x y) (toℕ n)))) (below-seven 0 (omega arith))))
     where
       go : (a b : Bool) (e : Edited) → NotFull e → NotFull (refusedUnless a 1 d t (refusedUnless b 3 d t e))
       go true true e r = r
@@ -88,7 +91,7 @@ module _ {d : Drawing} (l : Lawful d) (t : Tally) where
 
   -- "A zero-length wire inside the range gives 0 and the drawing as it was"
   pub wire-idle : Sized d → (v : Bool) (a s : ℤ) → ranged 6000 a ≡ true → ranged 6000 s ≡ true → addWire d v a s s t ≡ still d
-  unfolding addWire wire
+  unfolding addWire wireReply wire
   wire-idle z v a s p q =
       let e : leZ s s ≡ true = agree (leZ s s) true (λ u. tt) (λ u. ≤ℤ-refl s .le) in
       rw (p, q, e) (ap (λ (ws : List Wire). edited d t (quiet (record { wires = ws; parts = listsOf d .parts }))) (drawn-idle (wireAt v a s s) refl (listsOf d .wires) (padsOf (listsOf d .parts))) ∙ still-is z)
@@ -107,5 +110,5 @@ module _ {d : Drawing} (l : Lawful d) (t : Tally) where
 
   -- "A delete, turn or mirror that hits nothing gives 0."
   pub act-idle : Sized d → (a : Act) (x y n : ℤ) → ranged 6000 x ≡ true → ranged 6000 y ≡ true → eqb (sizeOf n .reply) 0 ≡ true → Misses a (pointAt x y) (toℕ n) → pointed d x y n t (λ p m. acted a p m (listsOf d)) ≡ still d
-  unfolding pointed
+  unfolding pointed pointerReply pointReply
   act-idle z a x y n p q r m = rw (p, q, r) (ap (edited d t) (missed a (pointAt x y) (toℕ n) m) ∙ still-is z)

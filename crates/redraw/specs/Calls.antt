@@ -1,28 +1,30 @@
 -- The five edits of a drawing that is known to be lawful: refusals in document 01's order, then the edit of the sheet.
--- "Order: 10, 9, 4, 1, 2, 3, 5, 6, 7, 8; the first that applies."
+-- "Order: 10, 9, 4, 1, 2, 3, 5, 6, 7, 8; the first that applies." 4, 1, 2, 3 and 5, which what is asked alone decides, are `Replies`'s; 6 and
+-- 7, which the drawing decides, follow here.
 use Prim.Native.Nat.{ℕ}
-use mathlib.Core.Bool.{Bool, _&&_, cond, not}
-use lib.Dec.{eqb}
+use mathlib.Core.Bool.{Bool, cond, not}
 use lib.IntN.{ℤ}
-use lib.Signed.{leZ}
 use Rattle.lists.specs.Lists.{any}
-use Rattle.edge.specs.Coordinates.{toℕ, sizeOf}
+use Rattle.edge.specs.Coordinates.{toℕ}
 use Rattle.label.specs.declared.Label.{Label}
-use Rattle.label.specs.Labels.{heldLabel}
 use Rattle.symbol.specs.declared.Point.{Point}
-use Rattle.symbol.specs.Symbols.{knownSymbol}
+use Rattle.symbol.specs.Replies.{granted, wireReply, pointerReply, componentReply}
 use Rattle.sheet.specs.declared.Drawing.{Drawing}
 use Rattle.sheet.specs.declared.Tally.{Tally}
 use Rattle.sheet.specs.Parts.{touches}
 use Rattle.sheet.specs.Drawings.{listsOf, drawn, tallyOf}
 use Rattle.sheet.specs.Edits.{Outcome, wire, placeOne, delete, turnRight, mirror}
-use Rattle.asked.specs.Asked.{ranged, wireAt, componentAt, pointAt}
+use Rattle.asked.specs.Asked.{wireAt, componentAt, pointAt}
 use Rattle.edits.specs.Making.{roomy, quiet}
 use Rattle.redraw.specs.declared.Edited.{Edited}
 
 -- "A refused edit returns the drawing received, with hit and lost 0; tally and buffer keep their old content."
 abbrev pub refused : ℕ → Drawing → Tally → Edited
 refused n d t = record { reply = n; tally = t; drawing = d; hit = 0; lost = 0 }
+
+-- the reply n is given unless it is 0
+abbrev pub refusedBy : ℕ → Drawing → Tally → Edited → Edited
+refusedBy n d t other = granted n (λ n. refused n d t) other
 
 -- the reply n is given if the test fails
 abbrev pub refusedUnless : Bool → ℕ → Drawing → Tally → Edited → Edited
@@ -40,30 +42,21 @@ still d = record { reply = 0; tally = tallyOf (listsOf d); drawing = d; hit = 0;
 unfoldable pub edited : Drawing → Tally → Outcome → Edited
 edited d t o = refusedUnless (roomy (o .sheet)) 7 d t (editDone o)
 
--- "Wire.": 1 "a coordinate outside its range", 2 "wire start greater than its end", then the edit
+-- "Wire.": 1, 2, then the edit
 unfoldable pub addWire : Drawing → Bool → ℤ → ℤ → ℤ → Tally → Edited
-addWire d vertical line start end t =
-    refusedUnless (ranged 6000 line && (ranged 6000 start && ranged 6000 end)) 1 d t
-    (refusedUnless (leZ start end) 2 d t
-    (edited d t (quiet (wire (wireAt vertical line start end) (listsOf d)))))
+addWire d vertical line start end t = refusedBy (wireReply line start end) d t (edited d t (quiet (wire (wireAt vertical line start end) (listsOf d))))
 
--- "Place.": 4 "unknown kind", or as orientation "a number outside 0 to 7" (document 02, P1), 1, 5 "label too long or with another byte", 6
--- "the new component's box shares a point with a placed one", then the edit
+-- "Place.": 4, 1, 5, 6 "the new component's box shares a point with a placed one", then the edit
 unfoldable pub addComponent : Drawing → ℕ → ℕ → ℤ → ℤ → Label → Tally → Edited
 addComponent d kind o x y label t =
     let c = componentAt kind o x y label in
-    refusedUnless (knownSymbol kind o) 4 d t
-    (refusedUnless (ranged 5800 x && ranged 5800 y) 1 d t
-    (refusedUnless (eqb (heldLabel label .reply) 0) 5 d t
+    refusedBy (componentReply kind o x y label) d t
     (refusedUnless (not (any (touches c) (listsOf d .parts))) 6 d t
-    (edited d t (quiet (placeOne c (listsOf d)))))))
+    (edited d t (quiet (placeOne c (listsOf d)))))
 
--- the pointer and a size are in their ranges, else 1 or 3
+-- 1, 3, then an edit at the pointer
 unfoldable pub pointed : Drawing → ℤ → ℤ → ℤ → Tally → (Point → ℕ → Outcome) → Edited
-pointed d x y size t edit =
-    refusedUnless (ranged 6000 x && ranged 6000 y) 1 d t
-    (refusedUnless (eqb (sizeOf size .reply) 0) 3 d t
-    (edited d t (edit (pointAt x y) (toℕ size))))
+pointed d x y size t edit = refusedBy (pointerReply x y size) d t (edited d t (edit (pointAt x y) (toℕ size)))
 
 -- "Delete."; "Hit and lost are 0 for wire, place and delete."
 unfoldable pub deleteAt : Drawing → ℤ → ℤ → ℤ → Tally → Edited

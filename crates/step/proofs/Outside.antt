@@ -8,6 +8,7 @@ use lib.IntN.{ℤ, pos, negsuc}
 use borrow.Author.Tests.{lt-leb, le-ltb}
 use Rattle.lists.proofs.Tests.{choose, ltb-reads}
 use Rattle.label.specs.declared.Label.{Label}
+use Rattle.symbol.specs.Replies.{symbolReply, componentReply}
 use Rattle.sheet.specs.declared.Drawing.{Drawing}
 use Rattle.sheet.specs.declared.Tally.{Tally}
 use Rattle.redraw.specs.Calls.{refused, addComponent}
@@ -34,6 +35,6 @@ and-false false e = refl
 
 pub outside-four : (d : Drawing) (kind orient x y : ℤ) (b : Label) (t : Tally) → Outside 2 kind ⊎ Outside 7 orient
     → addComponent d (choiceOf kind) (choiceOf orient) x y b t ≡ refused 4 d t
-unfolding addComponent
+unfolding addComponent componentReply symbolReply
 outside-four d kind orient x y b t (inl o) = rw (no-kind o)
 outside-four d kind orient x y b t (inr o) = rw (and-false (leb (choiceOf kind) 2) (no-orientation o))

@@ -4,3 +4,4 @@ pub mod Symbols
 pub mod Exact
 mod Sides
 pub mod Boxes
+pub mod Replies

@@ -1,3 +1,4 @@
 pub mod Symbols
 pub mod Steps
 pub mod Boxes
+pub mod Replies
