@@ -63,10 +63,10 @@ fn make_room(out: &[u8], used: usize) -> Room
             failed: false,
         };
     }
-    let taken = write_block(&out[..used]);
+    let o = write_block(0, &out[..used]);
     Room {
         at: 0,
-        failed: !taken,
+        failed: o.failed,
     }
 }
 
@@ -263,6 +263,6 @@ fn main() {
     let w = run(&mut chunk, &mut held, &mut out);
     if !w.failed {
         let used = w.used;
-        write_block(&out[..used]);
+        write_block(0, &out[..used]);
     }
 }

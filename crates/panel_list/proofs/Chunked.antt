@@ -12,9 +12,9 @@ use Rattle.lines.specs.Runs.{ran, throughChunk}
 use Rattle.lines.proofs.Runs.{run-end}
 use Rattle.step.specs.Scripts.{progress, andThen}
 use Rattle.panel_list.specs.declared.answers.Taken.{Taken}
-use Rattle.panel_list.specs.Sums.{sumOf}
+use Rattle.streams.specs.Sums.{sumOf}
 use Rattle.panel_list.specs.Printing.{Takes, Done}
-use Rattle.panel_list.proofs.Sums.{sum-append}
+use Rattle.streams.proofs.Sums.{sum-append}
 use Rattle.panel_list.proofs.Shifted.{shift, shifted}
 
 module _ (chunk held₀ : List ℕ) (d₀ : Drawing) (begun sum₀ : ℕ) where

@@ -1,6 +1,5 @@
 -- What chunks print together is what the script prints; and what the proofs of functions use.
 pub mod Whole
-pub mod Sums
 mod Shifted
 mod Printed
 mod Going

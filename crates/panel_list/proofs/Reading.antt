@@ -13,11 +13,11 @@ use Rattle.lines.specs.Runs.{ran, next, chunks, joined, finish}
 use Rattle.lines.proofs.Runs.{chunks-more}
 use Rattle.step.specs.Steps.{printed, stepOf}
 use Rattle.step.specs.Scripts.{Progress, progress, noTally, start, andThen}
-use Rattle.panel_list.specs.declared.output.Output.{Output}
+use Rattle.streams.specs.declared.output.Output.{Output}
 use Rattle.panel_list.specs.declared.Run.{Run}
-use Rattle.panel_list.specs.Sums.{sumOf}
+use Rattle.streams.specs.Sums.{sumOf}
 use Rattle.panel_list.specs.Printing.{Done, Read, Finished, Printed, afterFailure}
-use Rattle.panel_list.proofs.Sums.{sum-append}
+use Rattle.streams.proofs.Sums.{sum-append}
 use Rattle.panel_list.proofs.Whole.{whole}
 
 pub none : {d : Drawing} (held : List ℕ) → d ≡ drawn emptySheet → Lawful d → Read (record { drawing = d; count = 0; sum = 0; failed = false }) held

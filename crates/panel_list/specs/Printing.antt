@@ -10,9 +10,9 @@ use Rattle.lines.specs.Runs.{ran, throughChunk, chunks, joined, finish}
 use Rattle.step.specs.Scripts.{progress, start, andThen, scriptOf}
 use Rattle.panel_list.specs.declared.answers.Answered.{Answered}
 use Rattle.panel_list.specs.declared.answers.Taken.{Taken}
-use Rattle.panel_list.specs.declared.output.Output.{Output}
+use Rattle.streams.specs.declared.output.Output.{Output}
 use Rattle.panel_list.specs.declared.Run.{Run}
-use Rattle.panel_list.specs.Sums.{sumOf}
+use Rattle.streams.specs.Sums.{sumOf}
 
 -- ---- a chunk
 

@@ -2,7 +2,6 @@
 // `stdin` and `stdout` are a script, which begins with docs/examples/drop-point.txt, and what the Rust prints for it:
 // `oracle/target/release/oracle sample list crates/panel_list` makes both again.
 mod answers;
-mod output;
 
 ghost use mathlib.Core.Path.{_≡_};
 ghost use Prim.Native.Nat.{_≤_};
@@ -10,14 +9,14 @@ ghost use lib.ListN.{length};
 ghost use Rattle.sheet.specs.Rules.{Lawful};
 ghost use Rattle.panel_list.specs.Printing.{Done, Read, Finished, Printed, afterFailure};
 use answers::take_lines;
-use output::Output;
-use output::hand_over;
 use sheet::Drawing;
 use step::NO_TALLY;
 use step::empty_drawing;
 use step::step_on;
 use streams::Got;
+use streams::Output;
 use streams::read_chunk;
+use streams::write_block;
 
 // How far the script is: the drawing, how many bytes of a line that goes on are held, the sum of all that was handed over, and whether a
 // read or a write failed.
@@ -48,7 +47,7 @@ fn answer(
         let t = take_lines(drawing, &chunk[at..], held, count, out);
         at += t.at;
         let used = t.used;
-        let o = hand_over(sum, &out[..used]);
+        let o = write_block(sum, &out[..used]);
         drawing = t.drawing;
         count = t.count;
         sum = o.sum;
@@ -85,7 +84,7 @@ fn finish(run: Run, held: &[u8], out: &mut [u8]) -> Output
         let d = run.drawing;
         let s = step_on(d, &held[..count], NO_TALLY, out);
         let used = s.length;
-        return hand_over(run.sum, &out[..used]);
+        return write_block(run.sum, &out[..used]);
     }
     Output {
         sum: run.sum,

@@ -37,9 +37,12 @@ fn answer(drawing: Drawing, line: &[u8], out: &mut [u8]) -> Answered
 {
     let s = rows_step(drawing, line, out);
     let used = s.length;
-    let taken = write_block(&out[..used]);
+    let o = write_block(0, &out[..used]);
     let d = s.drawing;
-    Answered { drawing: d, taken }
+    Answered {
+        drawing: d,
+        taken: !o.failed,
+    }
 }
 
 // All the lines that end in a chunk.

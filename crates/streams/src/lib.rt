@@ -1,9 +1,12 @@
 // Standard input and output of a program. What fails is told on standard error, and the caller is told to stop.
+pub mod output;
+
 ghost use Prim.Native.Nat.{_≤_};
 ghost use lib.ListN.{length};
 ghost use Rattle.streams.specs.Reads.{Brings};
 use libc::STDIN_FILENO;
-use libc::STDOUT_FILENO;
+pub use output::Output;
+pub use output::write_block;
 
 // What a read brings: so many bytes in front of the lent buffer, or the end of the input.
 pub enum Got {
@@ -26,13 +29,4 @@ pub fn read_chunk(chunk: &mut [u8]) -> Got
         return Got::End;
     }
     Got::Bytes(n)
-}
-
-// A block handed to standard output; whether all of it was taken.
-pub fn write_block(block: &[u8]) -> bool {
-    if io::write_all(STDOUT_FILENO, block) {
-        return true;
-    }
-    os::fail(b"standard output");
-    false
 }

@@ -34,11 +34,11 @@ add-at c =
     let s = l .before .before .before .before in
     omega (arith, reached (s .args .chunk .now) _ _ _ _ (l .loop .inv .0) (t .take-lines .ensures), s .good)
 
-slice-reshare-prefix-hand-over : tie.Need-slice-reshare-prefix-hand-over Inv-loop μ-loop
-slice-reshare-prefix-hand-over c = omega (arith, c .before .before .before .before .before .take-lines .ensures .fits)
+slice-reshare-prefix-write-block : tie.Need-slice-reshare-prefix-write-block Inv-loop μ-loop
+slice-reshare-prefix-write-block c = omega (arith, c .before .before .before .before .before .take-lines .ensures .fits)
 
-slice-aggregate-hand-over : tie.Need-slice-aggregate-hand-over Inv-loop μ-loop
-slice-aggregate-hand-over c =
+slice-aggregate-write-block : tie.Need-slice-aggregate-write-block Inv-loop μ-loop
+slice-aggregate-write-block c =
     let t = c .before .before .before .before .before .before .take-lines in
     omega (arith, length-take (t .result .used) (t .last .1 .1 .1 .1 .0), t .ensures .fits)
 
@@ -52,7 +52,7 @@ returns : tie.Need-returns Inv-loop μ-loop
 returns c =
     let t = c .before .before .before .before .before .before .before .before .before in
     let l = t .before .before .before .before .before in
-    at-end _ _ _ _ _ (on _ _ _ _ _ (l .loop .inv .0) (t .take-lines .ensures) (c .before .before .hand-over .ensures)) true (λ e. absurd (subst T e tt))
+    at-end _ _ _ _ _ (on _ _ _ _ _ (l .loop .inv .0) (t .take-lines .ensures) (c .before .before .write-block .ensures)) true (λ e. absurd (subst T e tt))
 
 loop-less : tie.Need-loop-less Inv-loop μ-loop
 loop-less c =
@@ -64,7 +64,7 @@ loop-again : tie.Need-loop-again Inv-loop μ-loop
 loop-again c =
     let t = c .before .before .before .before .before .before .before .before .before in
     let g = t .before .before .before .before .before .loop .inv in
-    (on _ _ _ _ _ (g .0) (t .take-lines .ensures) (c .before .before .hand-over .ensures), t .take-lines .kept .1 .1 .0 ∙ g .1, t .take-lines .kept .1 .1 .1 .1 .0 ∙ g .2)
+    (on _ _ _ _ _ (g .0) (t .take-lines .ensures) (c .before .before .write-block .ensures), t .take-lines .kept .1 .1 .0 ∙ g .1, t .take-lines .kept .1 .1 .1 .1 .0 ∙ g .2)
 
 returns-2 : tie.Need-returns-2 Inv-loop μ-loop
 returns-2 c =
@@ -82,8 +82,8 @@ answer-spec =
     (λ c. search needs)
     take-lines-requires
     add-at
-    slice-reshare-prefix-hand-over
-    slice-aggregate-hand-over
+    slice-reshare-prefix-write-block
+    slice-aggregate-write-block
     (λ c κs. search needs)
     same-length
     same-length-2

@@ -15,13 +15,13 @@ returns c = let s = c .before .before .before in failed-before (s .args .run) (s
 slice-aggregate-step-on : tie.Need-slice-aggregate-step-on
 slice-aggregate-step-on c = sym (length-take-le _ _ (c .before .before .before .before .before .before .pre .1 .0))
 
-slice-reshare-prefix-hand-over : tie.Need-slice-reshare-prefix-hand-over
-slice-reshare-prefix-hand-over c =
+slice-reshare-prefix-write-block : tie.Need-slice-reshare-prefix-write-block
+slice-reshare-prefix-write-block c =
     let t = c .before .before .step-on in
     omega (arith, answer-fits (t .ensures .tells .answers) (t .kept .1 .1 .1 .0), t .kept .1 .1 .1 .0)
 
-slice-aggregate-hand-over : tie.Need-slice-aggregate-hand-over
-slice-aggregate-hand-over c =
+slice-aggregate-write-block : tie.Need-slice-aggregate-write-block
+slice-aggregate-write-block c =
     let t = c .before .before .before .step-on in
     sym (length-take-le _ _ (omega (arith, answer-fits (t .ensures .tells .answers) (t .kept .1 .1 .1 .0), t .kept .1 .1 .1 .0)))
 
@@ -31,7 +31,7 @@ returns-2 c =
     let s = t .before .before .before .before .before .before .before .before in
     last-line (s .args .run) (s .args .held .now) (t .before .before .before .before .before .if1 .left)
     (omega (arith, length-take-le (s .args .run .count) (s .args .held .now) (s .pre .1 .0), t .before .before .before .before .if2 .taken))
-    (answer-front (whole-answer (t .step-on .ensures) (s .pre .1 .1))) (c .hand-over .ensures)
+    (answer-front (whole-answer (t .step-on .ensures) (s .pre .1 .1))) (c .write-block .ensures)
 
 returns-3 : tie.Need-returns-3
 returns-3 c =
@@ -45,8 +45,8 @@ finish-spec =
     returns
     slice-aggregate-step-on
     (λ c κs. search needs)
-    slice-reshare-prefix-hand-over
-    slice-aggregate-hand-over
+    slice-reshare-prefix-write-block
+    slice-aggregate-write-block
     (λ c κs. search needs)
     (λ c. search needs)
     returns-2

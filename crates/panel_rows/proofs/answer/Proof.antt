@@ -13,7 +13,7 @@ slice-aggregate-write-block : tie.Need-slice-aggregate-write-block
 slice-aggregate-write-block c = let p = c .before .before .before .rows-step in sym (length-take-le _ _ (rows-fit (p .ensures) (p .kept .1 .1 .0)))
 
 returns : tie.Need-returns
-returns c = let p = c .before .before .before .before .before .rows-step .ensures in (p .drawing, p .lawful)
+returns c = let p = c .before .before .before .before .before .before .rows-step .ensures in (p .drawing, p .lawful)
 
 pub answer-spec : {M : Type 1} → statement M
 answer-spec =

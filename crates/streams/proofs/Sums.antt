@@ -5,7 +5,7 @@ use Prim.Native.Nat.{ℕ, _+_, _<_, _≤_}
 use native.Mathlib.Numerals.{add-one}
 use lib.ListN.{length, drop, getD}
 use lib.Seq.{drop-cons, drop-length}
-use Rattle.panel_list.specs.Sums.{nextSum, sumOf}
+use Rattle.streams.specs.Sums.{nextSum, sumOf}
 
 pub sum-append : (s : ℕ) (a b : List ℕ) → sumOf s (a ++ b) ≡ sumOf (sumOf s a) b
 unfolding sumOf

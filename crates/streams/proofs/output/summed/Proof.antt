@@ -1,9 +1,9 @@
 -- `summed` meets its contract: 32 bits times 257 and a byte fit 64 bits.
 use mathlib.Core.Path.{refl}
-use Rattle.panel_list.specs.Sums.{nextSum}
+use Rattle.streams.specs.Sums.{nextSum}
 use borrow.Author.Needs.{needs}
-use Rattle.panel_list.proofs.output.summed.Statement.{statement}
-use Rattle.panel_list.proofs.output.summed.Tie as tie
+use Rattle.streams.proofs.output.summed.Statement.{statement}
+use Rattle.streams.proofs.output.summed.Tie as tie
 
 returns : tie.Need-returns
 unfolding nextSum

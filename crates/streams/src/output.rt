@@ -1,10 +1,10 @@
-// What the program hands to standard output. No contract can say which bytes a system writes, so a sum is kept of all bytes that were
+// What a program hands to standard output. No contract can say which bytes a system writes, so a sum is kept of all bytes that were
 // handed over, in their order: the contracts say of which bytes it is the sum.
 ghost use mathlib.Core.Path.{_≡_};
-ghost use Rattle.panel_list.specs.Sums.{nextSum, sumOf};
-use streams::write_block;
+ghost use Rattle.streams.specs.Sums.{nextSum, sumOf};
+use libc::STDOUT_FILENO;
 
-// The sum of all that was handed over, and whether a write or a read failed.
+// The sum of all that was handed over, and whether a write failed.
 pub struct Output {
     pub sum: u32,
     pub failed: bool,
@@ -30,11 +30,14 @@ fn sum_of(sum: u32, block: &[u8]) -> u32
     s
 }
 
-// Hands a block over, behind what was handed over before.
-pub(crate) fn hand_over(sum: u32, block: &[u8]) -> Output
+// Hands a block over, behind what was handed over before. A failure is told on standard error.
+pub fn write_block(sum: u32, block: &[u8]) -> Output
     ensures { λ r. ⌜ r .sum ≡ sumOf sum (now (block .entry)) ⌝ }
 {
-    let taken = write_block(block);
+    let taken = io::write_all(STDOUT_FILENO, block);
+    if !taken {
+        os::fail(b"standard output");
+    }
     Output {
         sum: sum_of(sum, block),
         failed: !taken,

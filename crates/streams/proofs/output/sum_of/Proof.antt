@@ -3,11 +3,11 @@ use mathlib.Core.Path.{_≡_, refl, sym, _∙_}
 use Prim.Native.Nat.{_≤_, _-_}
 use native.Mathlib.Omega.{arith}
 use lib.ListN.{length, drop}
-use Rattle.panel_list.specs.Sums.{sumOf}
-use Rattle.panel_list.proofs.Sums.{sum-on, sum-end}
+use Rattle.streams.specs.Sums.{sumOf}
+use Rattle.streams.proofs.Sums.{sum-on, sum-end}
 use borrow.Author.Needs.{needs}
-use Rattle.panel_list.proofs.output.sum_of.Statement.{statement}
-use Rattle.panel_list.proofs.output.sum_of.Tie as tie
+use Rattle.streams.proofs.output.sum_of.Statement.{statement}
+use Rattle.streams.proofs.output.sum_of.Tie as tie
 
 abbrev Inv-loop : tie.InvT-loop
 Inv-loop sum block s₀ i₀ s i = (i ≤ length block) × (sumOf s (drop i block) ≡ sumOf sum block)
