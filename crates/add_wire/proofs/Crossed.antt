@@ -8,9 +8,9 @@ use lib.ListN.{getD}
 use Rattle.lists.proofs.Tests.{both}
 use Rattle.symbol.specs.declared.Point.{Point}
 use Rattle.sheet.specs.declared.Wire.{Wire}
-use Rattle.sheet.specs.Lines.{along, inside, on}
+use Rattle.sheet.specs.Geometry.{along, inside, on}
 use Rattle.sheet.specs.Split.{left, right}
-use Rattle.sheet.proofs.Lines.{along-point}
+use Rattle.sheet.proofs.Geometry.{along-point}
 use Rattle.add_wire.specs.Marks.{crossing, isCrossed, cutAcross}
 use Rattle.add_wire.proofs.Marking.{on-true}
 

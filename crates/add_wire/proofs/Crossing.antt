@@ -11,9 +11,9 @@ use Rattle.lists.specs.Lists.{_∈_, gather}
 use Rattle.lists.proofs.Tests.{Reads, pass, fail, decide, choose, reads-as, and-reads, eqb-reads, same-or-turned}
 use Rattle.lists.proofs.Lists.{any-reads, in-cons, in-one}
 use Rattle.sheet.specs.declared.Wire.{Wire}
-use Rattle.sheet.specs.Lines.{along, across, Inside, inside, on, Meets}
+use Rattle.sheet.specs.Geometry.{along, across, Inside, inside, on, Meets}
 use Rattle.sheet.specs.Split.{left, right, splitOne, splitAt, splitAll}
-use Rattle.sheet.proofs.Lines.{On, inside-reads, on-reads, along-point, across-point, point-is}
+use Rattle.sheet.proofs.Geometry.{On, inside-reads, on-reads, along-point, across-point, point-is}
 use Rattle.sheet.proofs.Pieces.{one-none}
 use Rattle.sheet.proofs.Split.{all-none}
 use Rattle.sheet.proofs.Reach.{on-meets}

@@ -9,17 +9,17 @@ use lib.ListN.{getD, take, drop, length-take}
 use lib.Seq.{take-take}
 use Rattle.symbol.specs.declared.Point.{Point}
 use Rattle.lists.specs.Lists.{_∈_, any, keep, gather, insert}
-use Rattle.lists.specs.Places.{span}
+use Rattle.lists.specs.Span.{span}
 use Rattle.lists.proofs.Lists.{keep-in}
 use Rattle.lists.proofs.Appends.{keep-append, gather-append, length-insert}
 use Rattle.lists.proofs.Passes.{gather-as, gather-gather, gather-each}
-use Rattle.lists.proofs.Places.{insertAt, insert-place, span-le}
+use Rattle.lists.proofs.Insert.{insertAt, insert-place, span-le}
 use Rattle.lists.proofs.Finding.{in-take, in-drop}
 use Rattle.sheet.specs.declared.Wire.{Wire}
-use Rattle.sheet.specs.Lines.{along, across, low, high, tip, tips, ends, on, Meets, first}
+use Rattle.sheet.specs.Geometry.{along, across, low, high, tip, tips, ends, on, Meets, first}
 use Rattle.sheet.specs.Split.{splitOne, splitAt, splitAll}
 use Rattle.sheet.specs.Run.{kept, run, rest, standing, lay, layWire}
-use Rattle.sheet.proofs.Lines.{On, on-reads, same-dir}
+use Rattle.sheet.proofs.Geometry.{On, on-reads, same-dir}
 use Rattle.sheet.proofs.Split.{split-all-no-shorter, all-from}
 use Rattle.sheet.proofs.Rest.{kept-in}
 use Rattle.sheet.proofs.Reach.{run-reaches, within-meets}

@@ -14,8 +14,8 @@ use Rattle.lists.specs.Lists.{any, keep}
 use Rattle.lists.proofs.Tests.{decide, holds, eqb-reads}
 use Rattle.lists.proofs.Appends.{any-append, keep-append}
 use Rattle.sheet.specs.declared.Wire.{Wire}
-use Rattle.sheet.specs.Lines.{along, on, low, high, tip, tips}
-use Rattle.sheet.proofs.Lines.{On, on-reads}
+use Rattle.sheet.specs.Geometry.{along, on, low, high, tip, tips}
+use Rattle.sheet.proofs.Geometry.{On, on-reads}
 use Rattle.add_wire.specs.Marks.{Marked, More}
 
 pub on-true : (p : Point) (n : Wire) → on p n ≡ true → On p n

@@ -10,7 +10,7 @@ use lib.Dec.{eqb}
 use Rattle.symbol.specs.declared.Point.{Point}
 use Rattle.lists.specs.Lists.{_∈_, any, gather}
 use Rattle.sheet.specs.declared.Wire.{Wire}
-use Rattle.sheet.specs.Lines.{along, across, inside}
+use Rattle.sheet.specs.Geometry.{along, across, inside}
 use Rattle.sheet.specs.Split.{upTo, fromOn, splitOne, splitAt, splitAll}
 use Rattle.add_wire.specs.Marks.{strictlyIn, cutFrom}
 use Rattle.add_wire.proofs.Cutting.{In, cutAt, cuts, skips, whether, any-cut}

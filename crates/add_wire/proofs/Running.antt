@@ -7,7 +7,7 @@ use mathlib.Core.Bool.{Bool, true, false, cond}
 use lib.ListN.{length, take, getD}
 use Rattle.lists.proofs.Passes.{take-more}
 use Rattle.sheet.specs.declared.Wire.{Wire}
-use Rattle.sheet.specs.Lines.{meets}
+use Rattle.sheet.specs.Geometry.{meets}
 use Rattle.sheet.specs.Run.{stretch, run}
 
 both-ways : (r w a : Wire) → stretch (stretch r w) a ≡ stretch (stretch r a) w

@@ -8,7 +8,7 @@ use lib.ListN.{length, getD}
 use Rattle.symbol.specs.declared.Point.{Point}
 use Rattle.lists.specs.Lists.{any}
 use Rattle.sheet.specs.declared.Wire.{Wire}
-use Rattle.sheet.specs.Lines.{along, point, on, inside}
+use Rattle.sheet.specs.Geometry.{along, point, on, inside}
 use Rattle.sheet.specs.Split.{upTo, fromOn, left, right}
 use Rattle.wires.specs.declared.Grown.{Grown}
 use Rattle.wires.specs.Tables.{Grows}

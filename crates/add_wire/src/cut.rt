@@ -9,9 +9,9 @@ ghost use Rattle.add_wire.specs.Marks.{isCrossed, cutAcross, cutFrom, Ad
 use sheet::Wire;
 use sheet::Wires;
 use wires::Grown;
-use wires::lines::inside;
-use wires::lines::on;
-use wires::lines::point_of;
+use wires::geometry::inside;
+use wires::geometry::on;
+use wires::geometry::point_of;
 use wires::no_room;
 use wires::split::left;
 use wires::split::right;
@@ -26,8 +26,8 @@ fn is_crossed(n: Wire, marks: &[bool; 12001], w: Wire) -> bool
     }
     let p = point_of(n.vertical, n.line, w.line);
     if on(p, n) & inside(p, w) {
-        let place = w.line as usize;
-        return marks[place];
+        let at = w.line as usize;
+        return marks[at];
     }
     false
 }
@@ -71,14 +71,14 @@ pub fn cut_rows(g: Grown, t: Wires, from: usize, to: usize, n: Wire, marks: &[bo
 }
 
 // The part of the wire up to a place.
-fn up_to(place: u16, w: Wire) -> Wire
-    ensures { λ r. ⌜ r ≡ upTo place w ⌝ }
+fn up_to(at: u16, w: Wire) -> Wire
+    ensures { λ r. ⌜ r ≡ upTo at w ⌝ }
 {
     Wire {
         vertical: w.vertical,
         line: w.line,
         start: w.start,
-        end: place,
+        end: at,
     }
 }
 
@@ -94,8 +94,8 @@ pub fn cut_run(g: Grown, run: Wire, n: Wire, marks: &[bool; 12001]) -> Grown
     let mut w = run;
     let mut a = n.start;
     while a <= n.end {
-        let place = a as usize;
-        if marks[place] & ((w.start < a) & (a < w.end)) {
+        let at = a as usize;
+        if marks[at] & ((w.start < a) & (a < w.end)) {
             let k = out.count;
             if k >= 512 {
                 return no_room();

@@ -1,7 +1,7 @@
 // A new wire among the others: those that it meets go, its run comes in, cut at each joint that still stands on the wire as drawn.
+mod before;
 mod cut;
 mod marks;
-mod place;
 mod rest;
 mod run;
 
@@ -9,7 +9,7 @@ ghost use mathlib.Core.Path.{_≡_};
 ghost use Prim.Native.Nat.{_≤_};
 ghost use Rattle.lists.specs.Lists.{_∈_};
 ghost use Rattle.sheet.specs.declared.Wire.{Wire};
-ghost use Rattle.sheet.specs.Lines.{Meets};
+ghost use Rattle.sheet.specs.Geometry.{Meets};
 ghost use Rattle.sheet.specs.Run;
 ghost use Rattle.sheet.specs.Drawings.{wireRows};
 ghost use Rattle.wires.specs.Tables.{pointRows, Grows};
@@ -26,7 +26,7 @@ fn laid(t: Wires, run: Wire, n: Wire, pads: Points) -> Grown
     requires { ⌜ ((w : Wire) → w ∈ wireRows t → Meets n w → ⊥) ⌝ }
     ensures { λ r. ⌜ Grows (Run.lay n run (wireRows t) (pointRows pads)) r ⌝ }
 {
-    let p = place::place_of(t, run);
+    let p = before::rows_before(t, run);
     let m = t.count;
     let ends = marks::mark_ends(n, t);
     let marks = marks::mark_pads(ends, n, pads);

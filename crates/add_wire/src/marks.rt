@@ -2,7 +2,7 @@
 ghost use mathlib.Core.List.{[], _∷_};
 ghost use Prim.Native.Nat.{_≤_};
 ghost use Rattle.lists.specs.Lists.{keep};
-ghost use Rattle.sheet.specs.Lines;
+ghost use Rattle.sheet.specs.Geometry;
 ghost use Rattle.sheet.specs.Drawings.{wireRows};
 ghost use Rattle.wires.specs.Tables.{pointRows};
 ghost use Rattle.add_wire.specs.Marks.{Marked, More};
@@ -10,26 +10,26 @@ use sheet::Wire;
 use sheet::Wires;
 use symbol::Point;
 use wires::Points;
-use wires::lines::along;
-use wires::lines::high_tip;
-use wires::lines::low_tip;
-use wires::lines::on;
+use wires::geometry::along;
+use wires::geometry::high_tip;
+use wires::geometry::low_tip;
+use wires::geometry::on;
 
 // The point's place is marked if it lies on n.
 fn mark(marks: &mut [bool; 12001], n: Wire, p: Point)
     requires { ⌜ n .end ≤ 12000 ⌝ }
-    ensures { λ r. ⌜ More (n .vertical) (now (marks .entry)) (keep (λ q. Lines.on q n) (p ∷ [])) (now (marks .exit)) ⌝ }
+    ensures { λ r. ⌜ More (n .vertical) (now (marks .entry)) (keep (λ q. Geometry.on q n) (p ∷ [])) (now (marks .exit)) ⌝ }
 {
     if on(p, n) {
-        let place = along(n.vertical, p) as usize;
-        marks[place] = true;
+        let at = along(n.vertical, p) as usize;
+        marks[at] = true;
     }
 }
 
 // And the places of both ends of a wire.
 fn mark_tips(marks: &mut [bool; 12001], n: Wire, w: Wire)
     requires { ⌜ n .end ≤ 12000 ⌝ }
-    ensures { λ r. ⌜ More (n .vertical) (now (marks .entry)) (keep (λ q. Lines.on q n) (Lines.tips w)) (now (marks .exit)) ⌝ }
+    ensures { λ r. ⌜ More (n .vertical) (now (marks .entry)) (keep (λ q. Geometry.on q n) (Geometry.tips w)) (now (marks .exit)) ⌝ }
 {
     let low = low_tip(w);
     let high = high_tip(w);
@@ -40,7 +40,7 @@ fn mark_tips(marks: &mut [bool; 12001], n: Wire, w: Wire)
 // A mark where a wire ends on n.
 pub fn mark_ends(n: Wire, ws: Wires) -> [bool; 12001]
     requires { ⌜ (n .end ≤ 12000) × (ws .count ≤ 512) ⌝ }
-    ensures { λ r. ⌜ Marked (n .vertical) (keep (λ q. Lines.on q n) (Lines.ends (wireRows ws))) r ⌝ }
+    ensures { λ r. ⌜ Marked (n .vertical) (keep (λ q. Geometry.on q n) (Geometry.ends (wireRows ws))) r ⌝ }
 {
     let m = ws.count;
     let mut marks = [false; 12001];
@@ -56,7 +56,7 @@ pub fn mark_ends(n: Wire, ws: Wires) -> [bool; 12001]
 // And where a pad lies on n.
 pub fn mark_pads(ends: [bool; 12001], n: Wire, pads: Points) -> [bool; 12001]
     requires { ⌜ (n .end ≤ 12000) × (pads .count ≤ 384) ⌝ }
-    ensures { λ r. ⌜ More (n .vertical) ends (keep (λ q. Lines.on q n) (pointRows pads)) r ⌝ }
+    ensures { λ r. ⌜ More (n .vertical) ends (keep (λ q. Geometry.on q n) (pointRows pads)) r ⌝ }
 {
     let m = pads.count;
     let mut marks = ends;

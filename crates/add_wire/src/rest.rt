@@ -7,8 +7,8 @@ use crate::run::keep_unmet;
 use sheet::Wire;
 use sheet::Wires;
 use wires::Grown;
-use wires::lines::high_tip;
-use wires::lines::low_tip;
+use wires::geometry::high_tip;
+use wires::geometry::low_tip;
 use wires::split::split_more;
 
 // The wires that the new one does not meet, split at both its ends as drawn.

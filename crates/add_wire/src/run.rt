@@ -6,7 +6,7 @@ ghost use Rattle.sheet.specs.Drawings.{wireRows};
 ghost use Rattle.wires.specs.Tables.{Tabled};
 use sheet::Wire;
 use sheet::Wires;
-use wires::lines::meets;
+use wires::geometry::meets;
 use wires::no_wires;
 
 // The wires that the new one does not meet, in order.

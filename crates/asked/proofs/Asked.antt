@@ -22,14 +22,14 @@ use Rattle.asked.specs.Asked.{noWire, askedWire, noPart, askedPart, noPo
 use Rattle.asked.proofs.Ranges.{Tells}
 
 module _ (v : Bool) (l s e : ℤ) {a b c : Found} (p : Tells (ranged 6000 l) (biased l) a) (q : Tells (ranged 6000 s) (biased s) b) (r : Tells (ranged 6000 e) (biased e) c) where
-  tested : (a .inside && (b .inside && c .inside)) ≡ (ranged 6000 l && (ranged 6000 s && ranged 6000 e))
-  tested = λ i. p .inside-is i && (q .inside-is i && r .inside-is i)
+  tested : (a .within && (b .within && c .within)) ≡ (ranged 6000 l && (ranged 6000 s && ranged 6000 e))
+  tested = λ i. p .within-is i && (q .within-is i && r .within-is i)
 
-  pub far-wire : not (a .inside && (b .inside && c .inside)) ≡ true → noWire 1 ≡ askedWire v l s e
+  pub far-wire : not (a .within && (b .within && c .within)) ≡ true → noWire 1 ≡ askedWire v l s e
   unfolding askedWire wireReply
   far-wire t = rw (sym tested ∙ not-true _ t)
 
-  module _ (t : not (a .inside && (b .inside && c .inside)) ≡ false) where
+  module _ (t : not (a .within && (b .within && c .within)) ≡ false) where
     near : (ranged 6000 l && (ranged 6000 s && ranged 6000 e)) ≡ true
     near = sym tested ∙ not-false _ t
 
@@ -53,49 +53,49 @@ module _ (k : ℕ) (o : ℕ) (x y : ℤ) (l : Label) {j : Bool} (w : j ≡ known
     sort : knownSymbol k o ≡ true
     sort = sym w ∙ not-false _ t
 
-    placed : (a .inside && b .inside) ≡ (ranged 5800 x && ranged 5800 y)
-    placed = λ i. p .inside-is i && q .inside-is i
+    positioned : (a .within && b .within) ≡ (ranged 5800 x && ranged 5800 y)
+    positioned = λ i. p .within-is i && q .within-is i
 
-    pub far-part : not (a .inside && b .inside) ≡ true → noPart 1 ≡ askedPart k o x y l
+    pub far-part : not (a .within && b .within) ≡ true → noPart 1 ≡ askedPart k o x y l
     unfolding askedPart componentReply symbolReply pointReply
-    far-part u = rw (sort, sym placed ∙ not-true _ u)
+    far-part u = rw (sort, sym positioned ∙ not-true _ u)
 
-    module _ (u : not (a .inside && b .inside) ≡ false) {h : Held} (e : h ≡ heldLabel l) where
-      in-place : (ranged 5800 x && ranged 5800 y) ≡ true
-      in-place = sym placed ∙ not-false _ u
+    module _ (u : not (a .within && b .within) ≡ false) {h : Held} (e : h ≡ heldLabel l) where
+      at-position : (ranged 5800 x && ranged 5800 y) ≡ true
+      at-position = sym positioned ∙ not-false _ u
 
       reply : h .reply ≡ heldLabel l .reply
       reply = λ i. e i .reply
 
       pub unlabelled-part : (h .reply ≡ 0 → ⊥) → noPart 5 ≡ askedPart k o x y l
       unfolding askedPart componentReply symbolReply pointReply
-      unlabelled-part f = rw (sort, in-place, five l (ne-eqb (heldLabel l .reply) 0 (λ z. f (reply ∙ z))))
+      unlabelled-part f = rw (sort, at-position, five l (ne-eqb (heldLabel l .reply) 0 (λ z. f (reply ∙ z))))
 
       pub asked-part : h .reply ≡ 0 → _≡_ {A = AskedPart} (record { reply = 0; part = record { kind = k; orientation = o; x = a .at; y = b .at; label = h .bytes } }) (askedPart k o x y l)
       unfolding askedPart componentReply symbolReply pointReply
       asked-part z =
-          let s = both (ranged 5800 x) (ranged 5800 y) in-place in
-          rw (sort, in-place, eq-eqb (heldLabel l .reply) 0 (sym reply ∙ z)) (λ i. record { reply = 0; part = record { kind = k; orientation = o; x = p .number (s .0) i; y = q .number (s .1) i; label = e i .bytes } })
+          let s = both (ranged 5800 x) (ranged 5800 y) at-position in
+          rw (sort, at-position, eq-eqb (heldLabel l .reply) 0 (sym reply ∙ z)) (λ i. record { reply = 0; part = record { kind = k; orientation = o; x = p .number (s .0) i; y = q .number (s .1) i; label = e i .bytes } })
 
 module _ (x y n : ℤ) {a b c : Found} (p : Tells (ranged 6000 x) (biased x) a) (q : Tells (ranged 6000 y) (biased y) b) (r : Tells (eqb (sizeOf n .reply) 0) (toℕ n) c) where
-  pointed : (a .inside && b .inside) ≡ (ranged 6000 x && ranged 6000 y)
-  pointed = λ i. p .inside-is i && q .inside-is i
+  pointed : (a .within && b .within) ≡ (ranged 6000 x && ranged 6000 y)
+  pointed = λ i. p .within-is i && q .within-is i
 
-  pub far-pointer : not (a .inside && b .inside) ≡ true → noPointer 1 ≡ askedPointer x y n
+  pub far-pointer : not (a .within && b .within) ≡ true → noPointer 1 ≡ askedPointer x y n
   unfolding askedPointer pointerReply pointReply
   far-pointer t = rw (sym pointed ∙ not-true _ t)
 
-  module _ (t : not (a .inside && b .inside) ≡ false) where
+  module _ (t : not (a .within && b .within) ≡ false) where
     in-reach : (ranged 6000 x && ranged 6000 y) ≡ true
     in-reach = sym pointed ∙ not-false _ t
 
-    pub sizeless-pointer : not (c .inside) ≡ true → noPointer 3 ≡ askedPointer x y n
+    pub sizeless-pointer : not (c .within) ≡ true → noPointer 3 ≡ askedPointer x y n
     unfolding askedPointer pointerReply pointReply
-    sizeless-pointer u = rw (in-reach, three n (sym (r .inside-is) ∙ not-true _ u))
+    sizeless-pointer u = rw (in-reach, three n (sym (r .within-is) ∙ not-true _ u))
 
-    pub asked-pointer : not (c .inside) ≡ false → _≡_ {A = AskedPointer} (record { reply = 0; point = record { x = a .at; y = b .at }; size = c .at }) (askedPointer x y n)
+    pub asked-pointer : not (c .within) ≡ false → _≡_ {A = AskedPointer} (record { reply = 0; point = record { x = a .at; y = b .at }; size = c .at }) (askedPointer x y n)
     unfolding askedPointer pointerReply pointReply
     asked-pointer u =
         let s = both (ranged 6000 x) (ranged 6000 y) in-reach in
-        let z : eqb (sizeOf n .reply) 0 ≡ true = sym (r .inside-is) ∙ not-false _ u in
+        let z : eqb (sizeOf n .reply) 0 ≡ true = sym (r .within-is) ∙ not-false _ u in
         rw (in-reach, z) (λ i. record { reply = 0; point = record { x = p .number (s .0) i; y = q .number (s .1) i }; size = r .number z i })

@@ -18,7 +18,7 @@ use Rattle.asked.proofs.Handed.{bits, handed-two}
 
 -- r tells whether the test b passes, and if so it holds n
 pub record Tells (b : Bool) (n : ℕ) (r : Found) : Type 0 where
-  pub inside-is : r .inside ≡ b
+  pub within-is : r .within ≡ b
   pub number : b ≡ true → r .at ≡ n
 
 row-tells : (k : ℕ) (z : ℤ) → Tells (ranged k z) (biased z) (biasedWithin k z)
@@ -26,8 +26,8 @@ unfolding biasedWithin
 row-tells k z = go (ranged k z)
   where
     go : (b : Bool) → Tells b (biased z) (found b (biased z))
-    go true = record { inside-is = refl; number = λ e. refl }
-    go false = record { inside-is = refl; number = λ e. absurd (let y : _≡_ {A = ℕ} 0 1 = cc in omega arith) }
+    go true = record { within-is = refl; number = λ e. refl }
+    go false = record { within-is = refl; number = λ e. absurd (let y : _≡_ {A = ℕ} 0 1 = cc in omega arith) }
 
 -- the size that is found is the number itself
 size-value : (z : ℤ) → eqb (sizeOf z .reply) 0 ≡ true → sizeOf z .size ≡ toℕ z
@@ -40,8 +40,8 @@ size-value (pos n) e = go (leb n 1000) e
     go false e = absurd (let y : _≡_ {A = ℕ} 0 1 = cc in omega arith)
 
 size-tells : (z : ℤ) (s : PointerSize) → sized s ≡ sizeOf z → Tells (eqb (sizeOf z .reply) 0) (toℕ z) (sizeRow s)
-size-tells z (Is n) e = record { inside-is = ap (λ (a : SizeAnswer). eqb (a .reply) 0) e; number = λ q. ap (λ (a : SizeAnswer). a .size) e ∙ size-value z q }
-size-tells z Wrong e = record { inside-is = ap (λ (a : SizeAnswer). eqb (a .reply) 0) e; number = λ q. ap (λ (a : SizeAnswer). a .size) e ∙ size-value z q }
+size-tells z (Is n) e = record { within-is = ap (λ (a : SizeAnswer). eqb (a .reply) 0) e; number = λ q. ap (λ (a : SizeAnswer). a .size) e ∙ size-value z q }
+size-tells z Wrong e = record { within-is = ap (λ (a : SizeAnswer). eqb (a .reply) 0) e; number = λ q. ap (λ (a : SizeAnswer). a .size) e ∙ size-value z q }
 
 -- z as it reaches `edge` comes out of its bits as it was
 module _ (z : ℤ) (f : SFits w32 z) {r : Found} where

@@ -8,9 +8,9 @@ use lib.Dec.{T, eqb, leb, ltb, leb→le, ltb→lt, eqb→eq}
 use lib.IntN.{ℤ, pos, negsuc, natAbs}
 use lib.Signed.{leZ}
 use Rattle.lists.proofs.Tests.{both, both-l, both-r}
-use Rattle.edge.specs.Coordinates.{biased, ranged, insideOf, toℕ, sizeIs, noSize, sizeOf}
+use Rattle.edge.specs.Coordinates.{biased, ranged, isPosition, toℕ, sizeIs, noSize, sizeOf}
 use Rattle.edge.proofs.Whole.{toℕ-sub}
-use Rattle.edge.proofs.Places.{lifted, narrow-test}
+use Rattle.edge.proofs.Coordinates.{lifted, narrow-test}
 use Rattle.symbol.specs.Symbols.{knownSymbol}
 use Rattle.symbol.proofs.Replies.{wire-nested, pointer-nested, component-nested}
 use Rattle.label.specs.declared.Label.{Label}
@@ -40,7 +40,7 @@ near z e = lifted z (leb-true (natAbs z) 6000 e) .1
 standing : (z : ℤ) → ranged 5800 z ≡ true → (200 ≤ biased z) × (biased z ≤ 11800)
 standing z e =
     let h = leb-true (natAbs z) 5800 e in
-    let t : T (insideOf (biased z)) = subst T (sym (sym (narrow-test z (omega arith)) ∙ e)) tt in
+    let t : T (isPosition (biased z)) = subst T (sym (sym (narrow-test z (omega arith)) ∙ e)) tt in
     (leb→le 200 (biased z) (both-l (leb 200 (biased z)) (leb (biased z) 11800) t), leb→le (biased z) 11800 (both-r (leb 200 (biased z)) (leb (biased z) 11800) t))
 
 sized : (z : ℤ) → eqb (sizeOf z .reply) 0 ≡ true → toℕ z ≤ 1000

@@ -4,8 +4,8 @@ ghost use Rattle.asked.specs.Asked.{noWire, askedWire, noPart, askedPart
 ghost use Rattle.asked.specs.Rows.{sizeRow};
 use edge::Found;
 use edge::PointerSize;
-use edge::place;
-use edge::place_component;
+use edge::held_coordinate;
+use edge::held_position;
 use label::Label;
 use label::held_label;
 use sheet::Component;
@@ -37,11 +37,11 @@ fn size_row(s: PointerSize) -> Found
 {
     match s {
         PointerSize::Is(n) => Found {
-            inside: true,
+            within: true,
             at: n,
         },
         PointerSize::Wrong => Found {
-            inside: false,
+            within: false,
             at: 0,
         },
     }
@@ -64,10 +64,10 @@ fn no_wire(reply: u8) -> AskedWire
 pub fn asked_wire(vertical: bool, line: i32, start: i32, end: i32) -> AskedWire
     ensures { λ r. ⌜ r ≡ askedWire vertical line start end ⌝ }
 {
-    let l = place(line);
-    let s = place(start);
-    let e = place(end);
-    if !(l.inside & (s.inside & e.inside)) {
+    let l = held_coordinate(line);
+    let s = held_coordinate(start);
+    let e = held_coordinate(end);
+    if !(l.within & (s.within & e.within)) {
         return no_wire(1);
     }
     if start <= end {
@@ -103,9 +103,9 @@ pub fn asked_part(kind: u8, orientation: u8, x: i32, y: i32, label: Label) -> As
     if !symbol::is_known(kind, orientation) {
         return no_part(4);
     }
-    let a = place_component(x);
-    let b = place_component(y);
-    if !(a.inside & b.inside) {
+    let a = held_position(x);
+    let b = held_position(y);
+    if !(a.within & b.within) {
         return no_part(1);
     }
     let held = held_label(label);
@@ -138,13 +138,13 @@ fn no_pointer(reply: u8) -> AskedPointer
 pub fn asked_pointer(x: i32, y: i32, size: i32) -> AskedPointer
     ensures { λ r. ⌜ r ≡ askedPointer x y size ⌝ }
 {
-    let a = place(x);
-    let b = place(y);
+    let a = held_coordinate(x);
+    let b = held_coordinate(y);
     let n = size_row(edge::size(size));
-    if !(a.inside & b.inside) {
+    if !(a.within & b.within) {
         return no_pointer(1);
     }
-    if !n.inside {
+    if !n.within {
         return no_pointer(3);
     }
     AskedPointer {

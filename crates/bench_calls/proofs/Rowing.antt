@@ -20,7 +20,7 @@ use Rattle.sheet.specs.declared.Drawing.{Drawing}
 use Rattle.sheet.specs.Drawings.{listsOf, marksOf, wireRows, componentRows, joints, jointTable}
 use Rattle.sheet.specs.Edits.{meetsWire, meetsPart}
 use Rattle.sheet.specs.Joints.{jointsOf}
-use Rattle.sheet.specs.Lines.{marks}
+use Rattle.sheet.specs.Geometry.{marks}
 use Rattle.sheet.specs.Merge.{merge}
 use Rattle.sheet.specs.Parts.{ahead, padsOf}
 use Rattle.sheet.specs.Run.{layWire}

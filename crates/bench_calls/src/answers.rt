@@ -15,10 +15,10 @@ use netlist::write_list_on;
 use sheet::Drawing;
 use sheet::Tally;
 
-fn word(n: u8) -> u32
-    ensures { λ r. ⌜ r ≡ n ⌝ }
+fn number_of_byte(b: u8) -> u32
+    ensures { λ r. ⌜ r ≡ b ⌝ }
 {
-    n as u32
+    b as u32
 }
 
 fn tally_of(last: u32) -> Tally
@@ -52,10 +52,10 @@ fn check_answer(call: u8, d: Drawing) -> u32
 {
     if call == 2 {
         let k = rules::check_plainly(d);
-        return word(k.rule);
+        return k.rule as u32;
     }
     let k = lawful::check(d);
-    word(k.rule)
+    k.rule as u32
 }
 
 // A byte of the list: 4 of a drawing known to be lawful, else by the public call.
@@ -67,10 +67,10 @@ fn list_answer(call: u8, d: Drawing, last: u32) -> u32
     let i = (last % 7936) as usize;
     if call == 4 {
         write_list_on(d, &mut out);
-        return word(out[i]);
+        return number_of_byte(out[i]);
     }
     build_netlist(d, &mut out);
-    word(out[i])
+    number_of_byte(out[i])
 }
 
 // The number of loose points: 6 of a drawing known to be lawful, else by the public call.

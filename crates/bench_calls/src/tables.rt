@@ -7,7 +7,7 @@ ghost use Rattle.lists.specs.Lists.{keep, insert};
 ghost use Rattle.sheet.specs.Drawings.{wireRows, componentRows};
 ghost use Rattle.sheet.specs.Edits.{meetsWire, meetsPart};
 ghost use Rattle.sheet.specs.Joints.{jointsOf};
-ghost use Rattle.sheet.specs.Lines.{marks};
+ghost use Rattle.sheet.specs.Geometry.{marks};
 ghost use Rattle.sheet.specs.Merge;
 ghost use Rattle.sheet.specs.Parts.{ahead, padsOf};
 ghost use Rattle.sheet.specs.Rules.{Lawful};
@@ -32,26 +32,13 @@ use symbol::Point;
 use wires::split::split_at;
 use wires::square::keep_unhit;
 
-fn word(n: usize) -> u32
-    requires { ⌜ n ≤ 1408 ⌝ }
-    ensures { λ r. ⌜ r ≡ n ⌝ }
-{
-    n as u32
-}
-
-fn wide(n: u16) -> u32
-    ensures { λ r. ⌜ r ≡ n ⌝ }
-{
-    n as u32
-}
-
 fn split_rows(ws: Wires, p: Point) -> u32
     requires { ⌜ ws .count ≤ 512 ⌝ }
     ensures { λ r. ⌜ r ≡ grownRows (splitAt p (wireRows ws)) ⌝ }
 {
     let g = split_at(ws, p);
     let t = g.table;
-    word(t.count)
+    t.count as u32
 }
 
 fn unhit_row(ws: Wires, p: Point, size: u16) -> u32
@@ -61,7 +48,7 @@ fn unhit_row(ws: Wires, p: Point, size: u16) -> u32
     let t = keep_unhit(ws, p, size);
     let i = (size % 512) as usize;
     let w = t.rows[i];
-    wide(w.line)
+    w.line as u32
 }
 
 fn unmet_row(cs: Components, p: Point, size: u16) -> u32
@@ -71,7 +58,7 @@ fn unmet_row(cs: Components, p: Point, size: u16) -> u32
     let t = keep_unmet(cs, p, size);
     let i = (size % 128) as usize;
     let c = t.rows[i];
-    wide(c.x)
+    c.x as u32
 }
 
 fn laid_rows(ws: Wires, cs: Components, n: Wire) -> u32
@@ -81,7 +68,7 @@ fn laid_rows(ws: Wires, cs: Components, n: Wire) -> u32
     let pads = all_pads(cs);
     let g = add_wire::add_wire(ws, n, pads);
     let t = g.table;
-    word(t.count)
+    t.count as u32
 }
 
 fn inserted_row(cs: Components, c: Component) -> u32
@@ -91,7 +78,7 @@ fn inserted_row(cs: Components, c: Component) -> u32
     let t = insert_part(cs, c);
     let i = (c.x % 128) as usize;
     let b = t.rows[i];
-    wide(b.x)
+    b.x as u32
 }
 
 fn merged_rows(ws: Wires, cs: Components) -> u32
@@ -100,7 +87,7 @@ fn merged_rows(ws: Wires, cs: Components) -> u32
 {
     let pads = all_pads(cs);
     let t = merge::merge(ws, pads);
-    word(t.count)
+    t.count as u32
 }
 
 fn joint_rows(ws: Wires, cs: Components) -> u32
@@ -109,7 +96,7 @@ fn joint_rows(ws: Wires, cs: Components) -> u32
 {
     let pads = all_pads(cs);
     let t = count_joints(ws, pads);
-    word(t.count)
+    t.count as u32
 }
 
 fn pad_rows(cs: Components) -> u32
@@ -117,7 +104,7 @@ fn pad_rows(cs: Components) -> u32
     ensures { λ r. ⌜ r ≡ length (padsOf (componentRows cs)) ⌝ }
 {
     let pads = all_pads(cs);
-    word(pads.count)
+    pads.count as u32
 }
 
 // About a pointer: 8 wires split there, 9 wires and 10 components that the square does not meet.

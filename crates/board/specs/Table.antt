@@ -3,7 +3,7 @@
 use Prim.Native.String.{String}
 use mathlib.Core.List.{List, [], _∷_, map}
 use mathlib.Core.Path.{_≡_}
-use Rattle.board.specs.Lines.{printedBy, text, emptyDrawing, nines}
+use Rattle.board.specs.Calling.{printedBy, text, emptyDrawing, nines}
 
 -- each line of a script, with the lines that it prints
 abbrev pub Example : Type 0

@@ -23,7 +23,7 @@ use Rattle.draw.specs.declared.Choice.the-variants.{Of, Nothing}
 use Rattle.cad.specs.Answers.{refusedShape}
 use Rattle.cad.specs.Shapes.{componentShape}
 use Rattle.cad.proofs.Asked.{asked-at, asked-past}
-use Rattle.cad.proofs.Places.{Tested}
+use Rattle.cad.proofs.Positions.{Tested}
 
 module _ (kind : ℕ) (o : ℕ) where
   symbol-test : {k t : Bool} → k ≡ knownSymbol kind o → k ≡ t → knownSymbol kind o ≡ t
@@ -37,22 +37,22 @@ module _ (kind : ℕ) (o : ℕ) where
     abbrev Right : Answer → Type 0
     Right r = r ≡ componentShape kind o x y label i a b
 
-    place-test : {u : Bool} → (p && q) ≡ u → (ranged 5800 x && ranged 5800 y) ≡ u
-    place-test u = sym (λ j. X .is j && Y .is j) ∙ u
+    position-test : {u : Bool} → (p && q) ≡ u → (ranged 5800 x && ranged 5800 y) ≡ u
+    position-test u = sym (λ j. X .is j && Y .is j) ∙ u
 
     pub off-sheet : (p && q) ≡ false → Right (refusedShape 1)
     unfolding componentShape componentReply symbolReply pointReply
-    off-sheet u = simp (symbol-test K t, place-test u)
+    off-sheet u = simp (symbol-test K t, position-test u)
 
     module _ {h : Held} (u : (p && q) ≡ true) (H : h ≡ heldLabel label) where
       pub mislabelled : (h .reply ≡ 0 → ⊥) → Right (refusedShape 5)
       unfolding componentShape componentReply symbolReply pointReply
-      mislabelled f = simp (symbol-test K t, place-test u, five label (ne-eqb (heldLabel label .reply) 0 (λ r. f ((λ j. H j .reply) ∙ r))))
+      mislabelled f = simp (symbol-test K t, position-test u, five label (ne-eqb (heldLabel label .reply) 0 (λ r. f ((λ j. H j .reply) ∙ r))))
 
       module _ (g : h .reply ≡ 0) (r : Choice) (R : chosen r ≡ asked i (drawsOf kind a b)) where
         good : Right (asked i (map (transformOf (eighth o) (floatPosition x y)) (drawsOf kind a b)))
         unfolding componentShape componentReply symbolReply pointReply
-        good = simp (symbol-test K t, place-test u, eq-eqb (heldLabel label .reply) 0 (sym (λ j. H j .reply) ∙ g))
+        good = simp (symbol-test K t, position-test u, eq-eqb (heldLabel label .reply) 0 (sym (λ j. H j .reply) ∙ g))
 
         pub past : r ≡ Nothing → Right no-shape
         past e = asked-past (transformOf (eighth o) (floatPosition x y)) (drawsOf kind a b) i (sym (ap chosen e) ∙ R) ∙ good

@@ -1,6 +1,6 @@
 pub mod Answers
 pub mod Asked
-pub mod Places
+pub mod Positions
 pub mod Marks
 pub mod Components
 pub mod Bound

@@ -16,7 +16,7 @@ use Rattle.symbol.specs.Replies.{pointReply, wireReply}
 use Rattle.draw.specs.Answers.{Answer, shapeIs, no-shape}
 use Rattle.cad.specs.Answers.{refusedShape}
 use Rattle.cad.specs.Shapes.{wireShape, junctionShape}
-use Rattle.cad.proofs.Places.{Tested, Small, small, small-two}
+use Rattle.cad.proofs.Positions.{Tested, Small, small, small-two}
 
 -- the code tests whether the end is before the start
 order : (s e : ℤ) → leZ s e ≡ not (ltZ e s)

@@ -31,16 +31,16 @@ pub enum Shape {
 fn is_position(z: i32) -> bool
     ensures { λ r. ⌜ r ≡ ranged 5800 z ⌝ }
 {
-    let p = edge::place_component(z);
-    p.inside
+    let p = edge::held_position(z);
+    p.within
 }
 
 // Whether a wire or a joint may be at the coordinate.
 fn on_sheet(z: i32) -> bool
     ensures { λ r. ⌜ r ≡ ranged 6000 z ⌝ }
 {
-    let p = edge::place(z);
-    p.inside
+    let p = edge::held_coordinate(z);
+    p.within
 }
 
 // A position in floats, exactly.

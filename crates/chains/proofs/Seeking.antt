@@ -10,27 +10,27 @@ use borrow.Author.Tests.{eq-eqb, eqb-true}
 use lib.ListN.{length, getD}
 use Rattle.lists.specs.Lists.{any}
 use Rattle.lists.proofs.Tests.{holds, passes, agree, ltb-reads}
-use Rattle.chains.specs.Chains.{Met, here, later, Traced, Place}
+use Rattle.chains.specs.Chains.{Met, here, later, Traced, FoundAt}
 
 -- c, if it is one of the list, is still to be met from k on
 pub record Sought (c : ℕ) (cs before : List ℕ) (k : ℕ) : Type 0 where
   pub ahead : any (eqb c) cs ≡ true → (j : ℕ) × (getD cs j 0 ≡ c) × Met before k j
   pub within : k ≤ length cs
 
-any-place : (c : ℕ) (cs : List ℕ) → any (eqb c) cs ≡ true → (j : ℕ) × (j < length cs) × (getD cs j 0 ≡ c)
+any-at : (c : ℕ) (cs : List ℕ) → any (eqb c) cs ≡ true → (j : ℕ) × (j < length cs) × (getD cs j 0 ≡ c)
 unfolding any
-any-place c [] e = absurd (false≢true e)
-any-place c (x ∷ cs) e = step (eqb c x) refl (any-place c cs) e
+any-at c [] e = absurd (false≢true e)
+any-at c (x ∷ cs) e = step (eqb c x) refl (any-at c cs) e
   where
     step : (b : Bool) → eqb c x ≡ b → (any (eqb c) cs ≡ true → (j : ℕ) × (j < length cs) × (getD cs j 0 ≡ c)) → (b || any (eqb c) cs) ≡ true → (j : ℕ) × (j < suc (length cs)) × (getD (x ∷ cs) j 0 ≡ c)
     step true q ih e = (zero, omega arith, sym (eqb-true c x q))
     step false q ih e = let t = ih e in (suc (t .0), omega (arith, t .1), t .2)
 
-place-any : (c : ℕ) (cs : List ℕ) (j : ℕ) → j < length cs → getD cs j 0 ≡ c → any (eqb c) cs ≡ true
+at-any : (c : ℕ) (cs : List ℕ) (j : ℕ) → j < length cs → getD cs j 0 ≡ c → any (eqb c) cs ≡ true
 unfolding any
-place-any c [] j h e = absurd (not-suc-le-zero h)
-place-any c (x ∷ cs) zero h e = rw (eq-eqb c x (sym e))
-place-any c (x ∷ cs) (suc j) h e = step (eqb c x) (place-any c cs j (le-of-suc-le-suc h) e)
+at-any c [] j h e = absurd (not-suc-le-zero h)
+at-any c (x ∷ cs) zero h e = rw (eq-eqb c x (sym e))
+at-any c (x ∷ cs) (suc j) h e = step (eqb c x) (at-any c cs j (le-of-suc-le-suc h) e)
   where
     step : (b : Bool) → any (eqb c) cs ≡ true → (b || any (eqb c) cs) ≡ true
     step true q = refl
@@ -38,7 +38,7 @@ place-any c (x ∷ cs) (suc j) h e = step (eqb c x) (place-any c cs j (le-of-suc
 
 pub sought-start : {key : ℕ → ℕ} {cs last before : List ℕ} (c : ℕ) → Traced key cs last before → Sought c cs before (getD last (key c) 0)
 sought-start {key} {cs} {last} {before} c h = record {
-  ahead = λ e. let t = any-place c cs e in (t .0, t .2, subst (λ (x : ℕ). Met before (getD last (key x) 0) (t .0)) (t .2) (h .met (t .0) (t .1)));
+  ahead = λ e. let t = any-at c cs e in (t .0, t .2, subst (λ (x : ℕ). Met before (getD last (key x) 0) (t .0)) (t .2) (h .met (t .0) (t .1)));
   within = h .starts (key c);
 }
 
@@ -62,9 +62,9 @@ sought-next {c} {k} {cs} {before} s h f g = record {
 }
 
 -- the number at the link is the one sought
-pub place-here : {c k n : ℕ} {cs before : List ℕ} → Sought c cs before k → 0 < k → k ≤ n → getD cs (k - 1) 0 ≡ c → Place c cs n (k - 1)
-place-here {c} {k} {n} {cs} s h m e = record {
-  there = agree (ltb (k - 1) n) (any (eqb c) cs) (λ t. subst T (sym (place-any c cs (k - 1) (omega (arith, s .within)) e)) tt) (λ t. passes (ltb-reads (k - 1) n) (omega arith));
+pub found-here : {c k n : ℕ} {cs before : List ℕ} → Sought c cs before k → 0 < k → k ≤ n → getD cs (k - 1) 0 ≡ c → FoundAt c cs n (k - 1)
+found-here {c} {k} {n} {cs} s h m e = record {
+  there = agree (ltb (k - 1) n) (any (eqb c) cs) (λ t. subst T (sym (at-any c cs (k - 1) (omega (arith, s .within)) e)) tt) (λ t. passes (ltb-reads (k - 1) n) (omega arith));
   is = λ l. e;
 }
 
@@ -73,8 +73,8 @@ met-end here e = omega arith
 met-end (later p) e = omega arith
 
 -- the chain ends without it
-pub place-none : {c k : ℕ} {cs before : List ℕ} (n : ℕ) → Sought c cs before k → k ≡ 0 → Place c cs n n
-place-none {c} {k} {cs} n s e = record {
+pub found-none : {c k : ℕ} {cs before : List ℕ} (n : ℕ) → Sought c cs before k → k ≡ 0 → FoundAt c cs n n
+found-none {c} {k} {cs} n s e = record {
   there = agree (ltb n n) (any (eqb c) cs) (λ t. absurd (omega (arith, holds (ltb-reads n n) t))) (λ t. absurd (none (any (eqb c) cs) refl t));
   is = λ l. absurd (omega arith);
 }

@@ -19,6 +19,6 @@ pub record Traced (key : ℕ → ℕ) (cs last before : List ℕ) : Type 0 where
   pub starts : (k : ℕ) → getD last k 0 ≤ length cs
 
 -- c is at place r of the n numbers, and where it is none of them r is no place
-pub record Place (c : ℕ) (cs : List ℕ) (n r : ℕ) : Type 0 where
+pub record FoundAt (c : ℕ) (cs : List ℕ) (n r : ℕ) : Type 0 where
   pub there : ltb r n ≡ any (eqb c) cs
   pub is : r < n → getD cs r 0 ≡ c

@@ -4,7 +4,7 @@ ghost use Prim.Native.Nat.{_≤_, _<_, _%_};
 ghost use lib.Dec.{eqb};
 ghost use lib.ListN.{take};
 ghost use Rattle.lists.specs.Lists.{any};
-ghost use Rattle.chains.specs.Chains.{Traced, Place};
+ghost use Rattle.chains.specs.Chains.{Traced, FoundAt};
 
 // The last place of each key, and for each place the one before it with its key; both plus one, and 0 for none.
 pub struct Index {
@@ -17,12 +17,6 @@ fn key_of(c: u64) -> usize
     ensures { λ r. ⌜ (r ≡ c % 4093) × (r < 4096) ⌝ }
 {
     (c % 4093) as usize
-}
-
-fn wide(x: u16) -> usize
-    ensures { λ r. ⌜ r ≡ x ⌝ }
-{
-    x as usize
 }
 
 // The chains of the first n numbers.
@@ -46,7 +40,7 @@ pub fn chain(codes: [u64; 1408], n: usize) -> Index
 }
 
 // Where the number is among the first n, or n. Not where another one is (another_number_found).
-pub fn place_of(
+pub fn seek(
     codes: &[u64; 1408],
     n: usize,
     last: &[u16; 4096],
@@ -54,16 +48,16 @@ pub fn place_of(
     c: u64,
 ) -> usize
     requires { ⌜ (n ≤ 1408) × Traced (λ c. c % 4093) (take n (now codes)) (now last) (now before) ⌝ }
-    ensures { λ r. ⌜ Place c (take n (now (codes .entry))) n r ⌝ }
+    ensures { λ r. ⌜ FoundAt c (take n (now (codes .entry))) n r ⌝ }
 {
     let key = key_of(c);
-    let mut k = wide(last[key]);
+    let mut k = last[key] as usize;
     while 0 < k {
         let j = k - 1;
         if codes[j] == c {
             return j;
         }
-        k = wide(before[j]);
+        k = before[j] as usize;
     }
     n
 }
@@ -79,5 +73,5 @@ pub fn is_in(
     requires { ⌜ (n ≤ 1408) × Traced (λ c. c % 4093) (take n (now codes)) (now last) (now before) ⌝ }
     ensures { λ r. ⌜ r ≡ any (eqb c) (take n (now (codes .entry))) ⌝ }
 {
-    place_of(codes, n, last, before, c) < n
+    seek(codes, n, last, before, c) < n
 }

@@ -13,10 +13,12 @@ use mir.Facts.{toZ-ofZ}
 use borrow.Author.Tests.{leb-true}
 use Rattle.lists.proofs.Tests.{agree, both-l, both-r}
 use Rattle.orientation.specs.Orientations.{eighth}
-use Rattle.edge.specs.Coordinates.{coordOf, biased, ranged, biasedWithin, insideOf}
+use Rattle.edge.specs.Coordinates.{coordOf, biased, ranged, biasedWithin, isPosition}
 use Rattle.edge.specs.declared.Found.{Found}
-use Rattle.edge.proofs.Places.{back, narrow-test}
-use Rattle.symbol.specs.Symbols.{Offset, knownSymbol, off, minus, applied, movedOf, unused, padsAt, padBlock, padsFor, refusalOf, padsReplyOf, lowAt, highAt, boundsAt, boundsFor, aabbOf, Positioned}
+use Rattle.edge.proofs.Coordinates.{back, narrow-test}
+use Rattle.symbol.specs.Symbols.{Offset, knownSymbol, off, minus, applied, movedOf, unused, padsAt, padBlock, lowAt, highAt, boundsAt, Positioned}
+use Rattle.symbol.specs.Replies.{knownThenPlaced, heldReply}
+use Rattle.symbol.specs.Answers.{padsFor, padsReplyOf, boundsFor, aabbOf}
 use Rattle.symbol.specs.declared.Point.{Point}
 use Rattle.symbol.specs.declared.PadsReply.{PadsReply}
 use Rattle.symbol.specs.declared.BoundsReply.{BoundsReply}
@@ -34,11 +36,11 @@ pub held-at : (z : ℤ) → SFits w32 z → {p : Found} → p ≡ biasedWithin 5
 unfolding biasedWithin heldOf
 held-at z f e = ap (λ (p : Found). p .at) (e ∙ ap (biasedWithin 5800) (toZ-ofZ {w = w32} {z = z} f))
 
-held-test : (z : ℤ) → insideOf (heldOf z) ≡ ranged 5800 z
+held-test : (z : ℤ) → isPosition (heldOf z) ≡ ranged 5800 z
 unfolding heldOf
 held-test z = go (ranged 5800 z) refl
   where
-    go : (b : Bool) → ranged 5800 z ≡ b → insideOf (cond b (biased z) 0) ≡ b
+    go : (b : Bool) → ranged 5800 z ≡ b → isPosition (cond b (biased z) 0) ≡ b
     go true e = let h = leb-true (natAbs z) 5800 e in sym (narrow-test z (omega arith)) ∙ e
     go false e = refl
 
@@ -50,13 +52,13 @@ held-back z t =
     (λ i. coordOf (cond (e i) (biased z) 0)) ∙ back z (omega arith)
 
 -- ---- the answer of a call, by its reply: what is right at 0, else zeros
-by-reply : {A : Type 0} (k p : Bool) (f : ℕ → A) {right one four : A} → (T k → T p → f 0 ≡ right) → f 1 ≡ one → f 4 ≡ four → f (cond k (cond p 0 1) 4) ≡ cond k (cond p right one) four
+by-reply : {A : Type 0} (k p : Bool) (f : ℕ → A) {right one four : A} → (T k → T p → f 0 ≡ right) → f 1 ≡ one → f 4 ≡ four → f (knownThenPlaced k p) ≡ cond k (cond p right one) four
 by-reply true true f g h i = g tt tt
 by-reply true false f g h i = h
 by-reply false p f g h i = i
 
 module _ (kind : ℕ) (o : ℕ) (x y : ℤ) where
-  reply : cond (knownSymbol kind o) (cond (ranged 5800 x && ranged 5800 y) 0 1) 4 ≡ refusalOf kind o (heldOf x) (heldOf y)
+  reply : knownThenPlaced (knownSymbol kind o) (ranged 5800 x && ranged 5800 y) ≡ heldReply kind o (heldOf x) (heldOf y)
   reply = refuse kind o (heldOf x) (heldOf y) (knownSymbol kind o) (ranged 5800 x && ranged 5800 y) refl (λ i. held-test x i && held-test y i)
 
   -- what is right where kind, orientation and position are

@@ -27,7 +27,7 @@ pub struct BoxAnswer {
 fn held(x: i32) -> u16
     ensures { λ r. ⌜ r ≡ heldOf x ⌝ }
 {
-    let p = edge::place_component(x);
+    let p = edge::held_position(x);
     p.at
 }
 

@@ -15,9 +15,9 @@ use Rattle.text.specs.Text.{signedOf}
 use Rattle.text.proofs.Decimals.{length-decimal}
 
 -- the coordinate of a row's number of 16 bits, -6000 to 59535, has at most 5 bytes
-pub length-place : (n : ℕ) → n < 65536 → length (signedOf (coordOf n)) ≤ 5
+pub length-coordinate : (n : ℕ) → n < 65536 → length (signedOf (coordOf n)) ≤ 5
 unfolding signedOf
-length-place n h = ⊎-elim
+length-coordinate n h = ⊎-elim
     (λ lt. omega (arith, ap (λ (z : ℤ). length (signedOf z)) (sub-neg n 6000 (omega (arith, lt))), length-decimal 3 (suc (6000 - suc n)) (omega (arith, lt))))
     (λ ge. omega (arith, ap (λ (z : ℤ). length (signedOf z)) (sub-pos n 6000 (omega (arith, ge))), length-decimal 4 (n - 6000) (omega (arith, ge))))
     (decide (ltb-reads n 6000))

@@ -22,8 +22,8 @@ unfoldable pub countWord : ℕ → List ℕ
 countWord n = 32 ∷ decimalOf n
 
 -- ` <coordinate>`, as scripts have it: a minus before a negative one. n is the row's number.
-unfoldable pub placeWord : ℕ → List ℕ
-placeWord n = 32 ∷ signedOf (coordOf n)
+unfoldable pub coordinateWord : ℕ → List ℕ
+coordinateWord n = 32 ∷ signedOf (coordOf n)
 
 -- "Direction of a wire: .. no for horizontal"
 abbrev pub letterOf : Bool → ℕ
@@ -41,16 +41,16 @@ tallyLine t = 84 ∷ (countWord (t .wires) ++ (countWord (t .joints) ++ (countWo
 
 -- `W h|v <line> <start> <end>`
 unfoldable pub wireLine : Wire → List ℕ
-wireLine w = 87 ∷ 32 ∷ letterOf (w .vertical) ∷ (placeWord (w .line) ++ (placeWord (w .start) ++ (placeWord (w .end) ++ (10 ∷ []))))
+wireLine w = 87 ∷ 32 ∷ letterOf (w .vertical) ∷ (coordinateWord (w .line) ++ (coordinateWord (w .start) ++ (coordinateWord (w .end) ++ (10 ∷ []))))
 
 -- `J <x> <y> <count>`
 unfoldable pub jointLine : Joint → List ℕ
-jointLine j = 74 ∷ (placeWord (j .x) ++ (placeWord (j .y) ++ (countWord (j .count) ++ (10 ∷ []))))
+jointLine j = 74 ∷ (coordinateWord (j .x) ++ (coordinateWord (j .y) ++ (countWord (j .count) ++ (10 ∷ []))))
 
 -- `C <kind> <orientation> <x> <y> <label>`
 unfoldable pub componentLine : Component → List ℕ
 componentLine c =
-    67 ∷ (countWord (c .kind) ++ (countWord (c .orientation) ++ (placeWord (c .x) ++ (placeWord (c .y) ++ (labelWord (c .label) ++ (10 ∷ []))))))
+    67 ∷ (countWord (c .kind) ++ (countWord (c .orientation) ++ (coordinateWord (c .x) ++ (coordinateWord (c .y) ++ (labelWord (c .label) ++ (10 ∷ []))))))
 
 -- ---- the whole, the rows "in row order", then a line `.`
 

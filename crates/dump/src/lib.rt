@@ -1,10 +1,10 @@
 // The rows of a drawing as text in a lent buffer.
-mod lines;
+mod rows;
 mod tables;
 
 ghost use Rattle.sheet.specs.Rules.{Lawful};
 ghost use Rattle.dump.specs.Rows.{rowsOf, Puts, Space};
-use lines::put_tally;
+use rows::put_tally;
 use sheet::Drawing;
 use sheet::Tally;
 use tables::put_components;

@@ -1,3 +1,3 @@
 pub mod Whole
-pub mod Places
+pub mod Coordinates
 pub mod Sizes

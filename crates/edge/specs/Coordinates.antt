@@ -27,15 +27,15 @@ ranged limit z = leb (natAbs z) limit
 
 -- n, or none and 0
 abbrev pub found : Bool → ℕ → Found
-found b n = record { inside = b; at = cond b n 0 }
+found b n = record { within = b; at = cond b n 0 }
 
 -- a coordinate from -limit to limit, as a row's number
 unfoldable pub biasedWithin : ℕ → ℤ → Found
 biasedWithin limit z = found (ranged limit z) (biased z)
 
 -- a component's position as rows hold it: -5,800 to 5,800
-abbrev pub insideOf : ℕ → Bool
-insideOf n = leb 200 n && leb n 11800
+abbrev pub isPosition : ℕ → Bool
+isPosition n = leb 200 n && leb n 11800
 
 -- a size that is asked for: document 01's number, and the size
 pub record SizeAnswer : Type 0 where

@@ -1,15 +1,15 @@
 // The edge between the coordinates of document 01 and the numbers that rows hold: 6,000 more.
 ghost use mathlib.Core.Path.{_≡_};
-ghost use Rattle.edge.specs.Coordinates.{coordOf, biasedWithin, insideOf, sizeOf, sized};
+ghost use Rattle.edge.specs.Coordinates.{coordOf, biasedWithin, isPosition, sizeOf, sized};
 
 // A coordinate as rows hold it, or none and 0.
 pub struct Found {
-    pub inside: bool,
+    pub within: bool,
     pub at: u16,
 }
 
 const NOWHERE: Found = Found {
-    inside: false,
+    within: false,
     at: 0,
 };
 
@@ -20,7 +20,7 @@ pub enum PointerSize {
 }
 
 // A coordinate of a wire end or the pointer, -6,000 to 6,000, as rows hold it.
-pub fn place(x: i32) -> Found
+pub fn held_coordinate(x: i32) -> Found
     ensures { λ r. ⌜ r ≡ biasedWithin 6000 x ⌝ }
 {
     if x < -6000 {
@@ -30,23 +30,23 @@ pub fn place(x: i32) -> Found
         return NOWHERE;
     }
     Found {
-        inside: true,
+        within: true,
         at: (x + 6000) as u16,
     }
 }
 
 // Whether a row's number is a component's position.
 pub fn is_position(n: u16) -> bool
-    ensures { λ r. ⌜ r ≡ insideOf n ⌝ }
+    ensures { λ r. ⌜ r ≡ isPosition n ⌝ }
 {
     (200 <= n) & (n <= 11800)
 }
 
 // A coordinate of a component, -5,800 to 5,800, as rows hold it.
-pub fn place_component(x: i32) -> Found
+pub fn held_position(x: i32) -> Found
     ensures { λ r. ⌜ r ≡ biasedWithin 5800 x ⌝ }
 {
-    let p = place(x);
+    let p = held_coordinate(x);
     if is_position(p.at) {
         return p;
     }

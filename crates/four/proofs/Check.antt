@@ -7,15 +7,15 @@ use lib.Dec.{leb, eqb}
 use lib.ListN.{drop}
 use Rattle.lists.specs.Lists.{all, links}
 use Rattle.lists.proofs.Mapped.{all-mapped, links-mapped, rear}
-use Rattle.edge.specs.Coordinates.{insideOf}
+use Rattle.edge.specs.Coordinates.{isPosition}
 use Rattle.orientation.specs.Orientations.{sameOf}
 use Rattle.orientation.proofs.Turns.{known-number}
 use Rattle.label.specs.Labels.{labelOk, allZero}
 use Rattle.sheet.specs.declared.Component.{Component}
 use Rattle.sheet.specs.declared.Drawing.{Drawing}
 use Rattle.sheet.specs.Points.{rises}
-use Rattle.sheet.specs.Lines.{marks}
-use Rattle.sheet.specs.Joints.{place}
+use Rattle.sheet.specs.Geometry.{marks}
+use Rattle.sheet.specs.Joints.{jointPoint}
 use Rattle.sheet.specs.Parts.{padsOf, ahead}
 use Rattle.sheet.specs.Drawings.{listsOf, jointRows}
 use Rattle.limits.specs.Limits.{blankWire, blankJoint, blankComponent, wireFits, componentFits}
@@ -34,7 +34,7 @@ use Rattle.four.proofs.Drawings.{lists-same}
 
 same-fits : (c : Component) → Four.partFits (four c) ≡ componentFits c
 unfolding Four.partFits componentFits
-same-fits c = λ i. (leb (c .kind) 2 && known-number (c .orientation) i) && (insideOf (c .x) && (insideOf (c .y) && labelOk (c .label)))
+same-fits c = λ i. (leb (c .kind) 2 && known-number (c .orientation) i) && (isPosition (c .x) && (isPosition (c .y) && labelOk (c .label)))
 
 same-blank : (c : Component) → Four.blankPart (behind c) ≡ blankComponent c
 unfolding Four.blankPart blankComponent sameOf
@@ -83,5 +83,5 @@ same-check d =
     (unless (check4 (s .wires) (pads i)) 4
     (unlessTouching (touching i)
     (unless (check6 js (marks (s .wires) (pads i))) 6
-    (unless (links upward (s .wires) && (rising i && links (λ i j. rises (place i) (place j)) js)) 7
+    (unless (links upward (s .wires) && (rising i && links (λ i j. rises (jointPoint i) (jointPoint j)) js)) 7
     (broken 0)))))))

@@ -13,7 +13,7 @@ use Rattle.orientation.proofs.Turns.{known-number, eighth-known}
 use Rattle.sheet.specs.declared.Component.{Component}
 use Rattle.sheet.specs.declared.Drawing.{Drawing}
 use Rattle.sheet.specs.Points.{Rise}
-use Rattle.sheet.specs.Lines.{marks}
+use Rattle.sheet.specs.Geometry.{marks}
 use Rattle.sheet.specs.Boxes.{Shares}
 use Rattle.sheet.specs.Parts as Number
 use Rattle.sheet.specs.Drawings.{listsOf, zeroComponent, jointRows}

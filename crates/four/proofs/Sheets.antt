@@ -13,7 +13,7 @@ use Rattle.orientation.proofs.Turns.{Follows, eighth-right, eighth-mirror}
 use Rattle.symbol.specs.declared.Point.{Point}
 use Rattle.sheet.specs.declared.Wire.{Wire}
 use Rattle.sheet.specs.declared.Component.{Component}
-use Rattle.sheet.specs.Lines.{marks}
+use Rattle.sheet.specs.Geometry.{marks}
 use Rattle.sheet.specs.Joints.{jointsOf, total}
 use Rattle.sheet.specs.Split.{splitAll}
 use Rattle.sheet.specs.Merge.{merge}

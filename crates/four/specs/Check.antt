@@ -6,13 +6,13 @@ use mathlib.Core.List.{List, [], _∷_}
 use lib.Dec.{eqb, leb}
 use lib.ListN.{drop}
 use Rattle.lists.specs.Lists.{all, links}
-use Rattle.edge.specs.Coordinates.{insideOf}
+use Rattle.edge.specs.Coordinates.{isPosition}
 use Rattle.orientation.specs.declared.RotMirror.{RotMirror}
 use Rattle.orientation.specs.Orientations.{known, zeros, sameOf}
 use Rattle.label.specs.Labels.{labelOk, allZero}
 use Rattle.sheet.specs.declared.Joint.{Joint}
 use Rattle.sheet.specs.Points.{rises}
-use Rattle.sheet.specs.Joints.{place}
+use Rattle.sheet.specs.Joints.{jointPoint}
 use Rattle.sheet.specs.Drawings.{jointRows}
 use Rattle.limits.specs.Limits.{blankWire, blankJoint, wireFits}
 use Rattle.row_order.specs.RowOrder.{check2, upward}
@@ -33,7 +33,7 @@ blankPart c = eqb (c .kind) 0 && (sameOf (c .turn) zeros && (eqb (c .x) 0 && (eq
 
 -- the component meets the limits
 unfoldable pub partFits : Part → Bool
-partFits c = knownSymbol (c .kind) (c .turn) && (insideOf (c .x) && (insideOf (c .y) && labelOk (c .label)))
+partFits c = knownSymbol (c .kind) (c .turn) && (isPosition (c .x) && (isPosition (c .y) && labelOk (c .label)))
 
 -- "counts are within the rooms"
 unfoldable pub rooms : Drawing → Bool
@@ -67,7 +67,7 @@ touchingFrom i (c ∷ cs) = touchingOne i c (suc i) cs (touchingFrom (suc i) cs)
 
 -- ---- rule 7
 unfoldable pub check7 : Plan → List Joint → Bool
-check7 s js = links upward (s .wires) && (links ahead (s .parts) && links (λ i j. rises (place i) (place j)) js)
+check7 s js = links upward (s .wires) && (links ahead (s .parts) && links (λ i j. rises (jointPoint i) (jointPoint j)) js)
 
 -- ---- the first broken rule
 unfoldable pub checkOf : Drawing → Checked

@@ -17,7 +17,7 @@ use Rattle.sheet.specs.declared.Wires.{Wires}
 use Rattle.sheet.specs.declared.Joints.{Joints}
 use Rattle.sheet.specs.declared.Tally.{Tally}
 use Rattle.sheet.specs.Points.{rises}
-use Rattle.sheet.specs.Lines.{marks}
+use Rattle.sheet.specs.Geometry.{marks}
 use Rattle.sheet.specs.Joints.{jointsOf, total}
 use Rattle.sheet.specs.Drawings.{wireTable, wireRows, jointTable}
 

@@ -12,24 +12,24 @@ use Rattle.lists.specs.Lists.{_∈_, Rows}
 use Rattle.lists.proofs.Tests.{holds, decide, choose, and-reads, not-reads, eqb-reads, compare}
 use Rattle.lists.proofs.Order.{rows-all, rows-map}
 use Rattle.lists.proofs.Passes.{take-more}
-use Rattle.lists.proofs.Finding.{get-in, rows-at, table-place}
+use Rattle.lists.proofs.Finding.{get-in, rows-at, table-index}
 use Rattle.symbol.specs.declared.Point.{Point}
 use Rattle.sheet.specs.declared.Joint.{Joint}
 use Rattle.sheet.specs.declared.Joints.{Joints}
 use Rattle.sheet.specs.Points.{Rise}
-use Rattle.sheet.specs.Joints.{place, number, Rising}
+use Rattle.sheet.specs.Joints.{jointPoint, number, Rising}
 use Rattle.sheet.specs.Rules.{Rule6}
 use Rattle.sheet.specs.Drawings.{zeroJoint, jointRows}
 use Rattle.sheet.proofs.Points.{same-reads, rise-self}
 use Rattle.sheet.proofs.Numbers.{number-in, number-append, number-length}
-use Rattle.chains.specs.Chains.{Place}
+use Rattle.chains.specs.Chains.{FoundAt}
 use Rattle.chains.proofs.Chaining.{up-to}
 use Rattle.joints.specs.Keys.{spot, KeysOf}
 use Rattle.joint_check.specs.Meetings.{MetBy, CountsAgree}
 
 -- the point at a place, and what is read where there is none
 abbrev at : List Point → ℕ → Point
-at qs k = getD qs k (place zeroJoint)
+at qs k = getD qs k (jointPoint zeroJoint)
 
 -- ---- one point more
 
@@ -44,8 +44,8 @@ number-other {p} {q} n = choose (same-reads p q) (λ k. k ≡ 0) (λ t. absurd (
 -- at two places stand two points
 apart : {qs : List Point} → Rows Rise qs → (k r : ℕ) → k < length qs → r < length qs → k ≢ r → at qs k ≢ at qs r
 apart {qs} o k r a b n e = ⊎-elim
-    (λ (l : k < r). rise-self (subst (Rise (at qs k)) (sym e) (rows-at o k r (place zeroJoint) l b)))
-    (⊎-elim n (λ (l : r < k). rise-self (subst (Rise (at qs r)) e (rows-at o r k (place zeroJoint) l a))))
+    (λ (l : k < r). rise-self (subst (Rise (at qs k)) (sym e) (rows-at o k r (jointPoint zeroJoint) l b)))
+    (⊎-elim n (λ (l : r < k). rise-self (subst (Rise (at qs r)) e (rows-at o r k (jointPoint zeroJoint) l a))))
     (compare k r)
 
 met-none : (qs : List Point) (n : ℕ) → length qs ≤ n → MetBy [] qs (replicate n 0)
@@ -54,7 +54,7 @@ met-none qs n h = record { met = λ p m. absurd (∈-nil m); at = λ k l. getD-r
 
 met-next : {ps qs : List Point} {counts : List ℕ} {p : Point} (r : ℕ) → MetBy ps qs counts → Rows Rise qs → r < length qs → length qs ≤ length counts → at qs r ≡ p → MetBy (ps ++ (p ∷ [])) qs (set counts r (getD counts r 0 + 1))
 met-next {ps} {qs} {counts} {p} r m o h room e = record {
-  met = λ q n. ⊎-elim (m .met q) (λ (one : q ∈ p ∷ []). subst (λ x. x ∈ qs) (e ∙ sym (∈-one one)) (get-in qs r (place zeroJoint) h)) (∈-append ps n);
+  met = λ q n. ⊎-elim (m .met q) (λ (one : q ∈ p ∷ []). subst (λ x. x ∈ qs) (e ∙ sym (∈-one one)) (get-in qs r (jointPoint zeroJoint) h)) (∈-append ps n);
   at = λ k l. ⊎-elim
       (λ (a : k ≡ r). subst (λ (x : ℕ). getD new x 0 ≡ number (at qs x) (ps ++ (p ∷ []))) (sym a) (omega (arith, m .at r h, getD-set-same counts r (getD counts r 0 + 1) 0 (omega arith), number-append (at qs r) ps (p ∷ []), number-self e)))
       (λ (n : k ≡ r → ⊥). omega (arith, m .at k l, getD-set-other counts r k (getD counts r 0 + 1) 0 n, number-append (at qs k) ps (p ∷ []), number-other (λ (f : at qs k ≡ p). apart o k r l h n (f ∙ sym e))))
@@ -66,7 +66,7 @@ met-next {ps} {qs} {counts} {p} r m o h room e = record {
 
 -- keys of rising rows
 pub keys-rise : {js : Joints} {keys : List ℕ} → Rising (jointRows js) → KeysOf js keys → Rows Rise (map spot (take (js .count) keys))
-keys-rise o ks = subst (Rows Rise) (sym (ks .spots)) (rows-map place o)
+keys-rise o ks = subst (Rows Rise) (sym (ks .spots)) (rows-map jointPoint o)
 
 -- ---- the first i keys, among the first n codes
 
@@ -87,7 +87,7 @@ module _ (codes : List ℕ) (n : ℕ) (few : n ≤ 1408) (long : length codes �
     meeting-few = omega (arith, m .so-far .at r (omega (arith, length-spots)), number-length (at (map spot (take n codes)) r) (map spot (take i rows)), length-map (take i rows) spot, length-take i rows)
 
     -- the next key is at place r
-    pub meeting-next : {c : ℕ} → Rows Rise (map spot (take n codes)) → Place c (take n codes) n r → c ≡ getD rows i 0 → i < length rows → Meeting codes n rows (i + 1) (set counts r (getD counts r 0 + 1))
+    pub meeting-next : {c : ℕ} → Rows Rise (map spot (take n codes)) → FoundAt c (take n codes) n r → c ≡ getD rows i 0 → i < length rows → Meeting codes n rows (i + 1) (set counts r (getD counts r 0 + 1))
     meeting-next {c} o p e a =
         let is : at (map spot (take n codes)) r ≡ spot (getD rows i 0) = List·getD-map spot (take n codes) r 0 ∙ ap spot (p .is h ∙ e) in
         let more : map spot (take (i + 1) rows) ≡ map spot (take i rows) ++ (spot (getD rows i 0) ∷ []) = ap (map spot) (take-more rows i 0 a) ∙ map-append spot (take i rows) (getD rows i 0 ∷ []) in
@@ -120,20 +120,20 @@ pub agree-end : {rows : List Joint} {counts : List ℕ} {i : ℕ} (n : ℕ) → 
 agree-end {rows} {counts} n g e = subst (λ (k : ℕ). CountsAgree rows k counts) e g
 
 -- rows that rise, were met by all points, and tell what was counted, list the points
-pub met-listed : (js : Joints) {ps : List Point} {counts : List ℕ} → js .count ≤ 1408 → length (js .rows) ≡ 1408 → Rising (jointRows js) → MetBy ps (map place (jointRows js)) counts → CountsAgree (js .rows) (js .count) counts → Rule6 (jointRows js) ps
+pub met-listed : (js : Joints) {ps : List Point} {counts : List ℕ} → js .count ≤ 1408 → length (js .rows) ≡ 1408 → Rising (jointRows js) → MetBy ps (map jointPoint (jointRows js)) counts → CountsAgree (js .rows) (js .count) counts → Rule6 (jointRows js) ps
 met-listed js {ps} {counts} few long o m g = record {
-  once = rows-all o (λ i j a b l e. rise-self (subst (Rise (place i)) (sym e) l));
-  all = λ p n. let t = ∈-of-map place (jointRows js) (m .met p n) in (t .0, t .1, t .2);
-  only = λ j n. number-in (place j) ps (let t = told j n in omega (arith, t .0, t .1));
+  once = rows-all o (λ i j a b l e. rise-self (subst (Rise (jointPoint i)) (sym e) l));
+  all = λ p n. let t = ∈-of-map jointPoint (jointRows js) (m .met p n) in (t .0, t .1, t .2);
+  only = λ j n. number-in (jointPoint j) ps (let t = told j n in omega (arith, t .0, t .1));
   right = λ j n. told j n .1;
 }
   where
-    told : (j : Joint) → j ∈ jointRows js → (0 < j .count) × (j .count ≡ number (place j) ps)
+    told : (j : Joint) → j ∈ jointRows js → (0 < j .count) × (j .count ≡ number (jointPoint j) ps)
     told j n =
-        let t = table-place (js .rows) (js .count) zeroJoint n (omega arith) in
-        let size : length (map place (jointRows js)) ≡ js .count = length-map (jointRows js) place ∙ length-take-le (js .count) (js .rows) (omega arith) in
-        let is : at (map place (jointRows js)) (t .0) ≡ place (getD (js .rows) (t .0) zeroJoint) = List·getD-map place (jointRows js) (t .0) zeroJoint ∙ ap place (getD-take (js .count) (js .rows) (t .0) zeroJoint (t .1)) in
-        subst (λ (i : Joint). (0 < i .count) × (i .count ≡ number (place i) ps)) (t .2)
+        let t = table-index (js .rows) (js .count) zeroJoint n (omega arith) in
+        let size : length (map jointPoint (jointRows js)) ≡ js .count = length-map (jointRows js) jointPoint ∙ length-take-le (js .count) (js .rows) (omega arith) in
+        let is : at (map jointPoint (jointRows js)) (t .0) ≡ jointPoint (getD (js .rows) (t .0) zeroJoint) = List·getD-map jointPoint (jointRows js) (t .0) zeroJoint ∙ ap jointPoint (getD-take (js .count) (js .rows) (t .0) zeroJoint (t .1)) in
+        subst (λ (i : Joint). (0 < i .count) × (i .count ≡ number (jointPoint i) ps)) (t .2)
         (above (g .met (t .0) (t .1)) (g .same (t .0) (t .1)), sym (g .same (t .0) (t .1)) ∙ m .at (t .0) (omega (arith, t .1)) ∙ ap (λ (p : Point). number p ps) is)
       where
         above : {k n : ℕ} → k ≢ 0 → k ≡ n → 0 < n

@@ -5,8 +5,8 @@ ghost use mathlib.Core.Bool.{true, not, _&&_};
 ghost use mathlib.Core.List.{map};
 ghost use Prim.Native.Nat.{_≤_};
 ghost use lib.Dec.{eqb};
-ghost use Rattle.sheet.specs.Lines.{marks};
-ghost use Rattle.sheet.specs.Joints.{place, Rising};
+ghost use Rattle.sheet.specs.Geometry.{marks};
+ghost use Rattle.sheet.specs.Joints.{jointPoint, Rising};
 ghost use Rattle.sheet.specs.Rules.{Rule6};
 ghost use Rattle.sheet.specs.Drawings.{wireRows, jointRows};
 ghost use Rattle.wires.specs.Tables.{pointRows};
@@ -14,7 +14,7 @@ ghost use Rattle.joints.specs.Keys.{spot};
 ghost use Rattle.joints.specs.Sorting.{keyRows};
 ghost use Rattle.joint_check.specs.Meetings.{MetBy, CountsAgree};
 use chains::chain;
-use chains::place_of;
+use chains::seek;
 use joints::keys::joint_keys;
 use joints::keys::mark_keys;
 use joints::sort::Keys;
@@ -28,16 +28,10 @@ pub struct Meetings {
     pub counts: [u16; 1408],
 }
 
-fn wide(k: u32) -> u64
-    ensures { λ r. ⌜ r ≡ k ⌝ }
-{
-    k as u64
-}
-
 // How often the keys meet each joint row.
 fn count_met(js: Joints, ks: Keys) -> Meetings
     requires { ⌜ (js .count ≤ 1408) × ((ks .count ≤ 1408) × Rising (jointRows js)) ⌝ }
-    ensures { λ r. ⌜ (r .all ≡ true → MetBy (map spot (keyRows ks)) (map place (jointRows js)) (r .counts)) ⌝ }
+    ensures { λ r. ⌜ (r .all ≡ true → MetBy (map spot (keyRows ks)) (map jointPoint (jointRows js)) (r .counts)) ⌝ }
 {
     let n = js.count;
     let m = ks.count;
@@ -52,8 +46,8 @@ fn count_met(js: Joints, ks: Keys) -> Meetings
     let mut i = 0;
     while i < m {
         let k = ks.rows[i];
-        let c = wide(k);
-        let r = place_of(&codes, n, &last, &before, c);
+        let c = k as u64;
+        let r = seek(&codes, n, &last, &before, c);
         if n <= r {
             out.all = false;
             return out;

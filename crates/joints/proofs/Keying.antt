@@ -14,8 +14,8 @@ use Rattle.symbol.specs.declared.Point.{Point}
 use Rattle.sheet.specs.declared.Wire.{Wire}
 use Rattle.sheet.specs.declared.Joints.{Joints}
 use Rattle.sheet.specs.Points.{same}
-use Rattle.sheet.specs.Lines.{ends, marks}
-use Rattle.sheet.specs.Joints.{place, number, jointsOf}
+use Rattle.sheet.specs.Geometry.{ends, marks}
+use Rattle.sheet.specs.Joints.{jointPoint, number, jointsOf}
 use Rattle.sheet.specs.Drawings.{zeroJoint, jointRows}
 use Rattle.sheet.proofs.JointRows.{length-ends, joints-same}
 use Rattle.sheet.proofs.Points.{point-path}
@@ -28,10 +28,10 @@ pub key-spot : (p : Point) → p .x < 65536 → spot (p .y * 65536 + p .x) ≡ p
 key-spot p h = point-path (omega arith) (omega arith)
 
 -- the key of a joint row
-pub keys-at : {js : Joints} {keys : List ℕ} → KeysOf js keys → js .count ≤ 1408 → (m : ℕ) → m < js .count → spot (getD keys m 0) ≡ place (getD (jointRows js) m zeroJoint)
+pub keys-at : {js : Joints} {keys : List ℕ} → KeysOf js keys → js .count ≤ 1408 → (m : ℕ) → m < js .count → spot (getD keys m 0) ≡ jointPoint (getD (jointRows js) m zeroJoint)
 keys-at {js} {keys} h room m g =
     ap spot (sym (getD-take (js .count) keys m 0 g))
-    ∙ maps-at spot place (take (js .count) keys) (jointRows js) (h .spots) m 0 zeroJoint (omega (arith, length-take (js .count) keys, h .size))
+    ∙ maps-at spot jointPoint (take (js .count) keys) (jointRows js) (h .spots) m 0 zeroJoint (omega (arith, length-take (js .count) keys, h .size))
 
 -- the table with one key more
 abbrev pub pushed : Keys → ℕ → Keys

@@ -14,7 +14,7 @@ use Rattle.lists.proofs.Order.{rows-head, rows-tail}
 use Rattle.symbol.specs.declared.Point.{Point}
 use Rattle.sheet.specs.declared.Joint.{Joint}
 use Rattle.sheet.specs.Points.{Rise, lower, level}
-use Rattle.sheet.specs.Joints.{place, jointAt, bump, jointsOf}
+use Rattle.sheet.specs.Joints.{jointPoint, jointAt, bump, jointsOf}
 use Rattle.sheet.proofs.JointRows.{joints-listed}
 use Rattle.sheet.proofs.Points.{same-reads, rises-reads, rise-self}
 use Rattle.joints.specs.Keys.{spot}
@@ -38,16 +38,16 @@ unfolding bump
 bump-here p n js = choose (rises-reads p p) (λ l. l ≡ jointAt p (suc n) ∷ js) (λ r. absurd (rise-self r))
     (λ m. choose (same-reads p p) (λ l. l ≡ jointAt p (suc n) ∷ js) (λ e. refl) (λ f. absurd (f refl)))
 
-bump-front : (p : Point) (js : List Joint) → ((j : Joint) → j ∈ js → Rise p (place j)) → bump p js ≡ jointAt p 1 ∷ js
+bump-front : (p : Point) (js : List Joint) → ((j : Joint) → j ∈ js → Rise p (jointPoint j)) → bump p js ≡ jointAt p 1 ∷ js
 unfolding bump
 bump-front p [] h = refl
-bump-front p (j ∷ js) h = choose (rises-reads p (place j)) (λ l. l ≡ jointAt p 1 ∷ j ∷ js) (λ r. refl) (λ n. absurd (n (h j (∈-head refl))))
+bump-front p (j ∷ js) h = choose (rises-reads p (jointPoint j)) (λ l. l ≡ jointAt p 1 ∷ j ∷ js) (λ r. refl) (λ n. absurd (n (h j (∈-head refl))))
 
 bumps-here : (n : ℕ) (p : Point) (m : ℕ) (js : List Joint) → bumps n p (jointAt p m ∷ js) ≡ jointAt p (n + m) ∷ js
 bumps-here zero p m js = ap (λ i. jointAt p i ∷ js) (omega arith)
 bumps-here (suc n) p m js = ap (bumps n p) (bump-here p m js) ∙ bumps-here n p (suc m) js ∙ ap (λ i. jointAt p i ∷ js) (omega arith)
 
-bumps-front : (n : ℕ) (p : Point) (js : List Joint) → ((j : Joint) → j ∈ js → Rise p (place j)) → bumps (suc n) p js ≡ jointAt p (suc n) ∷ js
+bumps-front : (n : ℕ) (p : Point) (js : List Joint) → ((j : Joint) → j ∈ js → Rise p (jointPoint j)) → bumps (suc n) p js ≡ jointAt p (suc n) ∷ js
 bumps-front n p js h = ap (bumps n p) (bump-front p js h) ∙ bumps-here n p 1 js ∙ ap (λ i. jointAt p i ∷ js) (omega arith)
 
 -- ---- from the front
@@ -58,7 +58,7 @@ rowsFrom k n [] = jointAt (spot k) n ∷ []
 rowsFrom k n (l ∷ ls) = cond (eqb l k) (rowsFrom k (suc n) ls) (jointAt (spot k) n ∷ rowsFrom l 1 ls)
 
 -- the joints of greater keys lie behind
-behind : (k : ℕ) (ls : List ℕ) → ((l : ℕ) → l ∈ ls → k < l) → (j : Joint) → j ∈ jointsOf (map spot ls) → Rise (spot k) (place j)
+behind : (k : ℕ) (ls : List ℕ) → ((l : ℕ) → l ∈ ls → k < l) → (j : Joint) → j ∈ jointsOf (map spot ls) → Rise (spot k) (jointPoint j)
 behind k ls h j m = let t = ∈-map spot ls (joints-listed (map spot ls) .only j m) in subst (Rise (spot k)) (t .2) (spot-rises (h (t .0) (t .1)))
 
 rows-from : (k n : ℕ) (ls : List ℕ) → Rows _≤_ (k ∷ ls) → rowsFrom k (suc n) ls ≡ bumps (suc n) (spot k) (jointsOf (map spot ls))

@@ -5,7 +5,7 @@ use mathlib.Core.Path.{_≡_}
 use lib.ListN.{length, take}
 use Rattle.symbol.specs.declared.Point.{Point}
 use Rattle.sheet.specs.declared.Joints.{Joints}
-use Rattle.sheet.specs.Joints.{place}
+use Rattle.sheet.specs.Joints.{jointPoint}
 use Rattle.sheet.specs.Drawings.{jointRows}
 use Rattle.joints.specs.declared.sort.Keys.{Keys}
 use Rattle.joints.specs.Sorting.{keyRows}
@@ -23,4 +23,4 @@ pub record Keyed (ps : List Point) (t : Keys) : Type 0 where
 -- the keys of the joints, row by row
 pub record KeysOf (js : Joints) (keys : List ℕ) : Type 0 where
   pub size : length keys ≡ 1408
-  pub spots : map spot (take (js .count) keys) ≡ map place (jointRows js)
+  pub spots : map spot (take (js .count) keys) ≡ map jointPoint (jointRows js)

@@ -2,7 +2,7 @@
 ghost use mathlib.Core.Path.{_≡_};
 ghost use mathlib.Core.List.{[]};
 ghost use Prim.Native.Nat.{_≤_};
-ghost use Rattle.sheet.specs.Lines.{ends, marks};
+ghost use Rattle.sheet.specs.Geometry.{ends, marks};
 ghost use Rattle.sheet.specs.Drawings.{wireRows};
 ghost use Rattle.wires.specs.Tables.{pointRows};
 ghost use Rattle.joints.specs.Keys.{spot, Keyed, KeysOf};
@@ -11,8 +11,8 @@ use sheet::Joints;
 use sheet::Wires;
 use symbol::Point;
 use wires::Points;
-use wires::lines::high_tip;
-use wires::lines::low_tip;
+use wires::geometry::high_tip;
+use wires::geometry::low_tip;
 
 // The key of a point: y, then x, so that keys rise as points do. Not that of its mirrored point (rows_by_column).
 pub fn key(p: Point) -> u32

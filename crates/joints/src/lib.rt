@@ -6,7 +6,7 @@ pub mod tally;
 
 ghost use mathlib.Core.Path.{_≡_};
 ghost use Prim.Native.Nat.{_≤_};
-ghost use Rattle.sheet.specs.Lines.{marks};
+ghost use Rattle.sheet.specs.Geometry.{marks};
 ghost use Rattle.sheet.specs.Joints.{jointsOf};
 ghost use Rattle.sheet.specs.Drawings;
 ghost use Rattle.sheet.specs.Drawings.{wireRows, jointTable};

@@ -11,7 +11,7 @@ use Rattle.lists.proofs.Tests.{Reads, holds, reads-as, and-reads, or-reads, eqb
 use Rattle.lists.proofs.Lists.{links-reads}
 use Rattle.lists.proofs.Order.{rows-all, chain-rows}
 use Rattle.sheet.specs.declared.Wire.{Wire}
-use Rattle.sheet.specs.Lines.{Before, turned, next-line, same-line}
+use Rattle.sheet.specs.Geometry.{Before, turned, next-line, same-line}
 use Rattle.sheet.specs.Wiring.{Fits, AllFit}
 use Rattle.sheet.proofs.Before.{before-trans}
 use Rattle.lawful.specs.Looks.{before}

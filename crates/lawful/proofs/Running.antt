@@ -15,27 +15,27 @@ use Rattle.symbol.specs.declared.Point.{Point}
 use Rattle.sheet.specs.declared.Wire.{Wire}
 use Rattle.sheet.specs.declared.Joint.{Joint}
 use Rattle.sheet.specs.Points.{Rise, lower, level}
-use Rattle.sheet.specs.Lines.{along, across, low, high, at, tip, Side, Inside, Follows}
-use Rattle.sheet.specs.Joints.{place, Rising}
+use Rattle.sheet.specs.Geometry.{along, across, low, high, at, tip, Side, Inside, Follows}
+use Rattle.sheet.specs.Joints.{jointPoint, Rising}
 use Rattle.sheet.specs.Drawings.{zeroJoint}
 use Rattle.sheet.proofs.Points.{same-reads, rise-self, rise-asym}
-use Rattle.sheet.proofs.Lines.{same-dir, along-point, across-point}
+use Rattle.sheet.proofs.Geometry.{same-dir, along-point, across-point}
 use Rattle.rules.proofs.Counted.{goes-on-reads}
 use Rattle.lawful.specs.Looks.{Chained, Clear, Run, done, more, Runs, clears}
-use Rattle.lists.proofs.Finding.{table-at, table-place}
+use Rattle.lists.proofs.Finding.{table-at, table-index}
 
 -- ---- the test
 
 -- what passing tells
 record Passed (a w : Wire) (i j : Joint) : Type 0 where
-  start : place i ≡ tip low w
-  end : place j ≡ tip high w
+  start : jointPoint i ≡ tip low w
+  end : jointPoint j ≡ tip high w
   parted : Follows a w → i .count ≡ 2 → ⊥
 
 passed : (a w : Wire) (i j : Joint) → clears a w i j ≡ true → Passed a w i j
 unfolding clears
 passed a w i j e =
-    let t = holds (and-reads (and-reads (same-reads (place i) (tip low w)) (same-reads (place j) (tip high w))) (or-reads (not-reads (goes-on-reads a w)) (not-reads (eqb-reads (i .count) 2)))) (subst T (sym e) tt) in
+    let t = holds (and-reads (and-reads (same-reads (jointPoint i) (tip low w)) (same-reads (jointPoint j) (tip high w))) (or-reads (not-reads (goes-on-reads a w)) (not-reads (eqb-reads (i .count) 2)))) (subst T (sym e) tt) in
     record { start = t .0 .0; end = t .0 .1; parted = λ f c. ⊎-elim (λ (n : Follows a w → ⊥). n f) (λ (n : i .count ≡ 2 → ⊥). n c) (t .1) }
 
 -- an end and an inner point by direction
@@ -62,19 +62,19 @@ record Between (l : List Joint) (n k r : ℕ) (j : Joint) : Type 0 where
   row : getD l place-is zeroJoint ≡ j
 
 module _ (l : List Joint) (n : ℕ) (rising : Rising (take n l)) (size : n ≤ length l) where
-  between : (k r : ℕ) (j : Joint) → k < n → r < n → j ∈ take n l → Rise (place (getD l k zeroJoint)) (place j) → Rise (place j) (place (getD l r zeroJoint)) → Between l n k r j
+  between : (k r : ℕ) (j : Joint) → k < n → r < n → j ∈ take n l → Rise (jointPoint (getD l k zeroJoint)) (jointPoint j) → Rise (jointPoint j) (jointPoint (getD l r zeroJoint)) → Between l n k r j
   between k r j h g m a b =
-      let t = table-place l n zeroJoint m size in
-      let a′ = subst (λ (q : Joint). Rise (place (getD l k zeroJoint)) (place q)) (sym (t .2)) a in
-      let b′ = subst (λ (q : Joint). Rise (place q) (place (getD l r zeroJoint))) (sym (t .2)) b in
+      let t = table-index l n zeroJoint m size in
+      let a′ = subst (λ (q : Joint). Rise (jointPoint (getD l k zeroJoint)) (jointPoint q)) (sym (t .2)) a in
+      let b′ = subst (λ (q : Joint). Rise (jointPoint q) (jointPoint (getD l r zeroJoint))) (sym (t .2)) b in
       record { place-is = t .0; after = above k (t .0) h a′; before = above (t .0) r (t .1) b′; used = t .1; row = t .2 }
     where
       -- what rises stands behind
-      above : (i s : ℕ) → i < n → Rise (place (getD l i zeroJoint)) (place (getD l s zeroJoint)) → i < s
+      above : (i s : ℕ) → i < n → Rise (jointPoint (getD l i zeroJoint)) (jointPoint (getD l s zeroJoint)) → i < s
       above i s u c = ⊎-elim
           (λ (x : i < s). x)
           (⊎-elim
-          (λ (x : i ≡ s). absurd (rise-self (subst (λ (y : ℕ). Rise (place (getD l i zeroJoint)) (place (getD l y zeroJoint))) (sym x) c)))
+          (λ (x : i ≡ s). absurd (rise-self (subst (λ (y : ℕ). Rise (jointPoint (getD l i zeroJoint)) (jointPoint (getD l y zeroJoint))) (sym x) c)))
           (λ (x : s < i). absurd (rise-asym c (table-at l n rising size s i zeroJoint x u))))
           (compare i s)
 
@@ -92,7 +92,7 @@ module _ (l : List Joint) (n : ℕ) (rising : Rising (take n l)) (size : n ≤ l
             from = getD l (k - 1) zeroJoint;
             among = row-in l n (k - 1) zeroJoint (omega arith) size;
             start = p .start;
-            free = λ q m z. let u = inner-line (place q) w d z in
+            free = λ q m z. let u = inner-line (jointPoint q) w d z in
                 let b = between (k - 1) k q (omega arith) g m (level (omega (arith, i .0, u .line)) (omega (arith, i .1, u .from))) (level (omega (arith, j .0, u .line)) (omega (arith, j .1, u .to))) in
                 omega (arith, b .after, b .before);
             parted = p .parted;
@@ -108,7 +108,7 @@ module _ (l : List Joint) (n : ℕ) (rising : Rising (take n l)) (size : n ≤ l
         from = getD l k zeroJoint;
         among = row-in l n k zeroJoint h size;
         start = p .start;
-        free = λ q m z. let u = inner-line (place q) w d z in
+        free = λ q m z. let u = inner-line (jointPoint q) w d z in
             let b = between k r q h g m (lower (omega (arith, i .1, u .from))) (lower (omega (arith, j .1, u .to))) in
             c .none k (b .place-is) (b .after) (b .used) (omega (arith, b .before)) (i .0 ∙ u .line ∙ ap (λ (y : Joint). y .x) (sym (b .row)));
         parted = p .parted;

@@ -10,8 +10,8 @@ use Rattle.lists.proofs.Lists.{in-cons}
 use Rattle.symbol.specs.declared.Point.{Point}
 use Rattle.sheet.specs.declared.Wire.{Wire}
 use Rattle.sheet.specs.declared.Joint.{Joint}
-use Rattle.sheet.specs.Lines.{point, tip, low, high, marks, Inside, Follows, Before}
-use Rattle.sheet.specs.Joints.{place, number, jointsOf}
+use Rattle.sheet.specs.Geometry.{point, tip, low, high, marks, Inside, Follows, Before}
+use Rattle.sheet.specs.Joints.{jointPoint, number, jointsOf}
 use Rattle.sheet.specs.Wiring.{AllFit, HeldApart}
 use Rattle.sheet.specs.Rules.{Rule6, Rule2}
 use Rattle.sheet.proofs.Held.{held-reads}
@@ -50,6 +50,6 @@ module _ {ws : List Wire} (ps : List Point) (v : Bool) {js : List Joint} (e : js
     pub held-apart : (a b : Wire) → a ∈ ws → b ∈ ws → Follows a b → a .vertical ≡ v → HeldApart ws ps (a .vertical) (tip high a)
     held-apart a b m n f d = stable (held-reads ws ps (a .vertical) (tip high a)) (λ g.
         let c : Clear js a b = follows-next order fits (behind (run-chain (runs .each))) a b m n f (sym (f .dir) ∙ d) in
-        let meet : tip low b ≡ tip high a = λ k. point (sym (f .dir) k) (sym (f .line) k) (sym (f .place) k) in
+        let meet : tip low b ≡ tip high a = λ k. point (sym (f .dir) k) (sym (f .line) k) (sym (f .end) k) in
         let k : number (tip high a) (marks ws ps) ≡ 2 = count-two ps fits two a b m n f g in
         c .parted f (listed .right (c .from) (c .among) ∙ ap (λ (q : Point). number q (marks ws ps)) (c .start ∙ meet) ∙ k))

@@ -12,9 +12,9 @@ use Rattle.sheet.specs.declared.Wires.{Wires}
 use Rattle.sheet.specs.declared.Joint.{Joint}
 use Rattle.sheet.specs.declared.Joints.{Joints}
 use Rattle.sheet.specs.declared.Drawing.{Drawing}
-use Rattle.sheet.specs.Lines.{marks, Follows, Before, tip, high}
+use Rattle.sheet.specs.Geometry.{marks, Follows, Before, tip, high}
 use Rattle.sheet.specs.Points.{rises}
-use Rattle.sheet.specs.Joints.{place, jointsOf, Rising}
+use Rattle.sheet.specs.Joints.{jointPoint, jointsOf, Rising}
 use Rattle.sheet.specs.Parts.{position, padsOf, ahead}
 use Rattle.sheet.specs.Drawings.{Sheet, wireRows, jointRows, listsOf, marksOf, Sized}
 use Rattle.sheet.specs.Wiring.{AllFit, HeldApart, Wired}
@@ -67,8 +67,8 @@ module _ (ws : Wires) (pads : Points) (js : Joints) (e : jointRows js ≡ joints
 -- ---- joints
 
 -- rows of which each and the next rise, rise
-pub rows-rise : (js : List Joint) → T (links (λ i j. rises (place i) (place j)) js) → Rising js
-rows-rise js t = rise-chain place .1 (holds (links-reads (λ i j. rises-reads (place i) (place j)) js) t)
+pub rows-rise : (js : List Joint) → T (links (λ i j. rises (jointPoint i) (jointPoint j)) js) → Rising js
+rows-rise js t = rise-chain jointPoint .1 (holds (links-reads (λ i j. rises-reads (jointPoint i) (jointPoint j)) js) t)
 
 -- ---- the drawing
 

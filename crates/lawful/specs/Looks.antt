@@ -9,8 +9,8 @@ use Rattle.lists.specs.Lists.{_∈_}
 use Rattle.sheet.specs.declared.Wire.{Wire}
 use Rattle.sheet.specs.declared.Joint.{Joint}
 use Rattle.sheet.specs.Points.{same}
-use Rattle.sheet.specs.Lines.{low, high, tip, Inside, Follows}
-use Rattle.sheet.specs.Joints.{place}
+use Rattle.sheet.specs.Geometry.{low, high, tip, Inside, Follows}
+use Rattle.sheet.specs.Joints.{jointPoint}
 use Rattle.sheet.specs.Drawings.{zeroJoint}
 use Rattle.merge.specs.Following.{goesOn}
 
@@ -38,8 +38,8 @@ pub record Chained (rows : List Joint) (count : ℕ) (next : List ℕ) : Type 0 
 pub record Clear (js : List Joint) (a w : Wire) : Type 0 where
   pub from : Joint
   pub among : from ∈ js
-  pub start : place from ≡ tip low w
-  pub free : (j : Joint) → j ∈ js → Inside (place j) w → ⊥
+  pub start : jointPoint from ≡ tip low w
+  pub free : (j : Joint) → j ∈ js → Inside (jointPoint j) w → ⊥
   pub parted : Follows a w → from .count ≡ 2 → ⊥
 
 -- each wire of the direction is clear; a is the row before the first
@@ -54,7 +54,7 @@ pub record Runs (v : Bool) (js : List Joint) (ws : List Wire) : Type 0 where
 
 -- the joints i and j are the ends of wire w, and where wire a goes on in it more than their two ends lie at i
 unfoldable pub clears : Wire → Wire → Joint → Joint → Bool
-clears a w i j = (same (place i) (tip low w) && same (place j) (tip high w)) && (not (goesOn a w) || not (eqb (i .count) 2))
+clears a w i j = (same (jointPoint i) (tip low w) && same (jointPoint j) (tip high w)) && (not (goesOn a w) || not (eqb (i .count) 2))
 
 -- ---- boxes
 

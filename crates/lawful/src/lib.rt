@@ -8,7 +8,7 @@ mod runs;
 ghost use mathlib.Core.Path.{_≡_};
 ghost use mathlib.Core.Bool.{true};
 ghost use Prim.Native.Nat.{_≤_};
-ghost use Rattle.sheet.specs.Lines.{marks};
+ghost use Rattle.sheet.specs.Geometry.{marks};
 ghost use Rattle.sheet.specs.Joints.{jointsOf};
 ghost use Rattle.sheet.specs.Drawings.{wireRows, jointRows};
 ghost use Rattle.sheet.specs.Wiring.{AllFit, Wired};

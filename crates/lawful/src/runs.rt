@@ -16,9 +16,9 @@ use sheet::Joints;
 use sheet::Wire;
 use sheet::Wires;
 use symbol::Point;
-use wires::lines::high_tip;
-use wires::lines::low_tip;
-use wires::lines::same;
+use wires::geometry::high_tip;
+use wires::geometry::low_tip;
+use wires::geometry::same;
 
 // The joints i and j are the two ends of wire w, and where wire a goes on in it more than their two ends lie at i.
 fn is_clear(a: Wire, w: Wire, i: Joint, j: Joint) -> bool

@@ -7,7 +7,7 @@ use Rattle.lists.proofs.Tests.{Reads, test, false-reads, reads-as, and-reads, e
 use Rattle.lists.proofs.Tables.{all-zero, zeros-only}
 use Rattle.lists.proofs.Lists.{all-reads}
 use Rattle.lists.proofs.Finding.{in-drop}
-use Rattle.edge.specs.Coordinates.{insideOf}
+use Rattle.edge.specs.Coordinates.{isPosition}
 use Rattle.label.specs.Labels.{labelOk}
 use Rattle.sheet.specs.declared.Wire.{Wire}
 use Rattle.sheet.specs.declared.Component.{Component}
@@ -68,7 +68,7 @@ component-reads c = reads-as
     (λ t. record { kind = t .0 .0; orientation = t .0 .1; x = t .1 .0; y = t .1 .1 .0; label = t .1 .1 .1 }, λ f. ((f .kind, f .orientation), (f .x, (f .y, f .label))))
     (and-reads (and-reads (leb-reads (c .kind) 2) (ltb-reads (c .orientation) 8)) (and-reads (inside-reads (c .x)) (and-reads (inside-reads (c .y)) (test (labelOk (c .label))))))
   where
-    inside-reads : (n : ℕ) → Reads ((200 ≤ n) × (n ≤ 11800)) (insideOf n)
+    inside-reads : (n : ℕ) → Reads ((200 ≤ n) × (n ≤ 11800)) (isPosition n)
     inside-reads n = and-reads (leb-reads 200 n) (leb-reads n 11800)
 
 -- the labels of the rows behind the count have their declared length: those of a drawing that code holds, and those of zero rows

@@ -4,7 +4,7 @@ use mathlib.Core.Bool.{Bool, _&&_, not}
 use lib.Dec.{eqb, ltb, leb}
 use lib.ListN.{drop}
 use Rattle.lists.specs.Lists.{all}
-use Rattle.edge.specs.Coordinates.{insideOf}
+use Rattle.edge.specs.Coordinates.{isPosition}
 use Rattle.label.specs.Labels.{labelOk, allZero}
 use Rattle.symbol.specs.Symbols.{knownSymbol}
 use Rattle.sheet.specs.declared.Wire.{Wire}
@@ -31,7 +31,7 @@ wireFits w = leb (w .line) 12000 && (ltb (w .start) (w .end) && leb (w .end) 120
 
 -- the component meets the limits
 unfoldable pub componentFits : Component → Bool
-componentFits c = knownSymbol (c .kind) (c .orientation) && (insideOf (c .x) && (insideOf (c .y) && labelOk (c .label)))
+componentFits c = knownSymbol (c .kind) (c .orientation) && (isPosition (c .x) && (isPosition (c .y) && labelOk (c .label)))
 
 -- "counts are within the rooms"
 unfoldable pub rooms : Drawing → Bool

@@ -8,7 +8,7 @@ use mathlib.Core.Path.{_≡_, refl, sym, ap, ap₂, subst, _∙_}
 use lib.ListN.{length, getD, set, take, drop, take-append-drop}
 use lib.Seq.{getD-take, length-take-le}
 use Rattle.lists.specs.Lists.{_∈_, Rows, none, more}
-use Rattle.lists.specs.Places.{span}
+use Rattle.lists.specs.Span.{span}
 use Rattle.lists.proofs.Tests.{Reads, choose, stable, not-reads}
 use Rattle.lists.proofs.Pushes.{take-push}
 use Rattle.lists.proofs.Passes.{take-more}
@@ -35,9 +35,9 @@ module _ {A : Type 0} where
   rows-at (more {xs = xs} f r) zero (suc j) d l h = f (getD xs j d) (get-in xs j d (le-of-suc-le-suc h))
   rows-at (more f r) (suc i) (suc j) d l h = rows-at r i j d (le-of-suc-le-suc l) (le-of-suc-le-suc h)
 
-  place-of : {x : A} {xs : List A} (d : A) → x ∈ xs → (r : ℕ) × r < length xs × (getD xs r d ≡ x)
-  place-of d (∈-head e) = (zero, omega arith, sym e)
-  place-of d (∈-tail m) = let t = place-of d m in (suc (t .0), omega (arith, t .1), t .2)
+  index-of : {x : A} {xs : List A} (d : A) → x ∈ xs → (r : ℕ) × r < length xs × (getD xs r d ≡ x)
+  index-of d (∈-head e) = (zero, omega arith, sym e)
+  index-of d (∈-tail m) = let t = index-of d m in (suc (t .0), omega (arith, t .1), t .2)
 
   -- the same of the first n rows of a table
   pub table-at : {R : A → A → Type 0} (l : List A) (n : ℕ) → Rows R (take n l) → n ≤ length l → (i j : ℕ) (d : A) → i < j → j < n → R (getD l i d) (getD l j d)
@@ -45,10 +45,10 @@ module _ {A : Type 0} where
       let z : length (take n l) ≡ n = length-take-le n l a in
       subst (λ (x : A). R x (getD l j d)) (getD-take n l i d (omega arith)) (subst (λ (y : A). R (getD (take n l) i d) y) (getD-take n l j d h) (rows-at r i j d g (omega arith)))
 
-  pub table-place : (l : List A) (n : ℕ) {x : A} (d : A) → x ∈ take n l → n ≤ length l → (r : ℕ) × r < n × (getD l r d ≡ x)
-  table-place l n d m a =
+  pub table-index : (l : List A) (n : ℕ) {x : A} (d : A) → x ∈ take n l → n ≤ length l → (r : ℕ) × r < n × (getD l r d ≡ x)
+  table-index l n d m a =
       let z : length (take n l) ≡ n = length-take-le n l a in
-      let t = place-of d m in
+      let t = index-of d m in
       let h : t .0 < n = omega (arith, t .1) in
       (t .0, h, sym (getD-take n l (t .0) d h) ∙ t .2)
 

@@ -7,7 +7,7 @@ pub mod Tables
 pub mod Pushes
 pub mod Walks
 pub mod Passes
-pub mod Places
+pub mod Insert
 pub mod Somes
 pub mod Finding
 pub mod Mapped

@@ -10,7 +10,7 @@ use mathlib.Core.Bool.{Bool, true, false}
 use lib.ListN.{length, getD, take, drop, drop-of-length-le}
 use lib.Seq.{drop-cons, length-take-le, getD-take, take-all}
 use Rattle.lists.specs.Lists.{any, all, pairs, links}
-use Rattle.lists.specs.Places.{span}
+use Rattle.lists.specs.Span.{span}
 
 module _ {A : Type 0} where
   -- the rows from i on, by the first of them

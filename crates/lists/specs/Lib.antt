@@ -1,3 +1,3 @@
 pub mod Lists
 pub mod Tables
-pub mod Places
+pub mod Span

@@ -16,7 +16,7 @@ use Rattle.lists.proofs.Pushes.{take-push, take-push-two}
 use Rattle.lists.proofs.Somes.{any-as, any-never, any-gather, any-map}
 use Rattle.sheet.specs.declared.Wire.{Wire}
 use Rattle.sheet.specs.Points.{same}
-use Rattle.sheet.specs.Lines.{low, high, tip}
+use Rattle.sheet.specs.Geometry.{low, high, tip}
 use Rattle.sheet.specs.Merge.{heldApart}
 use Rattle.sheet.proofs.Points.{same-reads}
 use Rattle.merge.specs.declared.Numbers.{Numbers}

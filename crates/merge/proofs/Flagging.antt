@@ -12,7 +12,7 @@ use Rattle.symbol.specs.declared.Point.{Point}
 use Rattle.lists.proofs.Tests.{decide, eqb-reads}
 use Rattle.lists.proofs.Tables.{same-row}
 use Rattle.sheet.specs.declared.Wire.{Wire}
-use Rattle.sheet.specs.Lines.{high, tip}
+use Rattle.sheet.specs.Geometry.{high, tip}
 use Rattle.sheet.specs.Merge.{heldApart}
 use Rattle.merge.specs.Codes.{marksWithKind, Coded, Flagged}
 

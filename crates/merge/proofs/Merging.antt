@@ -13,7 +13,7 @@ use Rattle.lists.proofs.Tables.{holds-push, holds-as}
 use Rattle.lists.proofs.Walks.{rows-from, Rest, rest-next, rest-end}
 use Rattle.sheet.specs.declared.Wire.{Wire}
 use Rattle.sheet.specs.declared.Wires.{Wires}
-use Rattle.sheet.specs.Lines.{high, tip, point}
+use Rattle.sheet.specs.Geometry.{high, tip, point}
 use Rattle.sheet.specs.Merge.{heldApart, joins, join, mergeBy, merge}
 use Rattle.sheet.proofs.Merge.{mergeFrom, merge-forward}
 use Rattle.wires.specs.Tables.{Tabled}

@@ -8,7 +8,7 @@ use lib.ListN.{length, take, getD}
 use Rattle.symbol.specs.declared.Point.{Point}
 use Rattle.lists.specs.Lists.{_∈_, gather}
 use Rattle.sheet.specs.declared.Wire.{Wire}
-use Rattle.sheet.specs.Lines.{low, high, tip}
+use Rattle.sheet.specs.Geometry.{low, high, tip}
 use Rattle.sheet.specs.Merge.{heldApart}
 use Rattle.merge.specs.declared.Numbers.{Numbers}
 

@@ -10,14 +10,8 @@ use crate::Numbers;
 use sheet::Wires;
 use symbol::Point;
 use wires::Points;
-use wires::lines::high_tip;
-use wires::lines::low_tip;
-
-fn wide(x: u16) -> u64
-    ensures { λ r. ⌜ (r ≡ x) × (x ≤ 65535) ⌝ }
-{
-    x as u64
-}
+use wires::geometry::high_tip;
+use wires::geometry::low_tip;
 
 // 1 for the end of a vertical wire, 0 for that of a horizontal one.
 pub fn kind_of(vertical: bool) -> u64
@@ -31,7 +25,7 @@ pub fn code(kind: u64, p: Point) -> u64
     requires { ⌜ kind ≤ 2 ⌝ }
     ensures { λ r. ⌜ (r ≡ codeOf (mark kind p)) × Codable (mark kind p) ⌝ }
 {
-    wide(p.x) + 65536 * wide(p.y) + 4294967296 * kind
+    (p.x as u64) + 65536 * (p.y as u64) + 4294967296 * kind
 }
 
 // The numbers of all wire ends.

@@ -5,7 +5,7 @@ ghost use Prim.Native.Nat.{_≤_, _%_};
 ghost use lib.ListN.{take};
 ghost use Rattle.symbol.specs.declared.Point.{Point};
 ghost use Rattle.sheet.specs.declared.Wire.{Wire};
-ghost use Rattle.sheet.specs.Lines.{high, tip};
+ghost use Rattle.sheet.specs.Geometry.{high, tip};
 ghost use Rattle.sheet.specs.Merge.{heldApart};
 ghost use Rattle.sheet.specs.Drawings.{wireRows};
 ghost use Rattle.wires.specs.Tables.{pointRows};
@@ -20,7 +20,7 @@ use chains::is_in;
 use sheet::Wire;
 use sheet::Wires;
 use wires::Points;
-use wires::lines::high_tip;
+use wires::geometry::high_tip;
 
 // An end of a wire of the other direction, or a pad, is where the wire ends.
 fn is_held(w: Wire, codes: &[u64; 1408], n: usize, last: &[u16; 4096], before: &[u16; 1408]) -> bool

@@ -8,7 +8,7 @@ use Rattle.symbol.specs.declared.Point.{Point}
 use Rattle.sheet.specs.declared.Components.{Components}
 use Rattle.sheet.specs.declared.Joint.{Joint}
 use Rattle.sheet.specs.declared.Drawing.{Drawing}
-use Rattle.sheet.specs.Lines.{ends}
+use Rattle.sheet.specs.Geometry.{ends}
 use Rattle.sheet.specs.Parts.{padsOf}
 use Rattle.sheet.specs.Drawings.{Sheet, marksOf, joints, wireRows, componentRows, jointRows, listsOf}
 use Rattle.sheet.specs.Rules.{Lawful}

@@ -8,7 +8,7 @@ use Rattle.symbol.specs.declared.Point.{Point}
 use Rattle.sheet.specs.declared.Wire.{Wire}
 use Rattle.sheet.specs.declared.Joint.{Joint}
 use Rattle.sheet.specs.declared.Joints.{Joints}
-use Rattle.sheet.specs.Lines.{tip, low, high, ends}
+use Rattle.sheet.specs.Geometry.{tip, low, high, ends}
 use Rattle.sheet.specs.Drawings.{jointRows}
 use Rattle.nets.specs.declared.Links.{Links}
 use Rattle.nets.specs.declared.Pads.{Pads}

@@ -10,13 +10,13 @@ use Rattle.lists.proofs.Tests.{compare}
 use Rattle.symbol.specs.declared.Point.{Point}
 use Rattle.sheet.specs.declared.Joints.{Joints}
 use Rattle.sheet.specs.Points.{Rise, lower, level}
-use Rattle.sheet.specs.Joints.{place}
+use Rattle.sheet.specs.Joints.{jointPoint}
 use Rattle.sheet.specs.Drawings.{jointRows, zeroJoint}
 use Rattle.joints.specs.Keys.{spot, KeysOf}
 use Rattle.joints.proofs.Keying.{keys-at}
 use Rattle.nets.specs.Tables.{JointNumber}
 use Rattle.net_numbers.specs.Netted.{numberOfJoint}
-use Rattle.net_numbers.specs.Found.{Ascending, PlaceOf, NumberAt, Jointed}
+use Rattle.net_numbers.specs.Found.{Ascending, IndexOf, NumberAt, Jointed}
 use Rattle.lists.proofs.Finding.{rows-at}
 use Rattle.net_numbers.proofs.Numbered.{number-found}
 
@@ -67,13 +67,13 @@ module _ {keys : List ℕ} {n : ℕ} (h : Ascending keys n) {k : ℕ} where
       above m g e (inr (inl x)) = omega arith
       above m g e (inr (inr x)) = absurd (omega (arith, h .rise m mid x (omega (arith, b .top))))
 
-  pub between-one : {low high : ℕ} → Between keys n k low high → high ≤ low + 1 → PlaceOf keys n k low
+  pub between-one : {low high : ℕ} → Between keys n k low high → high ≤ low + 1 → IndexOf keys n k low
   between-one b e = record { low = b .order .1; only = λ m g q. let r = b .only m g q in omega arith }
 
 -- ---- numbers
 
-pub place-number : {keys : List ℕ} {n k i : ℕ} {p : Point} → PlaceOf keys n k i → spot k ≡ p → NumberAt keys n p (i + 1)
-place-number {keys} {n} {k} h e = record { only = λ m g q. let r = h .only m g (key-told (getD keys m 0) k (q ∙ sym e)) in omega arith }
+pub index-number : {keys : List ℕ} {n k i : ℕ} {p : Point} → IndexOf keys n k i → spot k ≡ p → NumberAt keys n p (i + 1)
+index-number {keys} {n} {k} h e = record { only = λ m g q. let r = h .only m g (key-told (getD keys m 0) k (q ∙ sym e)) in omega arith }
 
 -- the keys of the joints at hand, and a joint for each of the points
 pub record Ready (ps : List Point) (js : Joints) (keys : List ℕ) : Type 0 where

@@ -9,8 +9,8 @@ use Rattle.lists.proofs.Lists.{gather-in, in-gather, keep-old}
 use Rattle.symbol.specs.declared.Point.{Point}
 use Rattle.sheet.specs.declared.Wire.{Wire}
 use Rattle.sheet.specs.declared.Joint.{Joint}
-use Rattle.sheet.specs.Lines.{tip, tips, low, high, ends}
-use Rattle.sheet.specs.Joints.{place}
+use Rattle.sheet.specs.Geometry.{tip, tips, low, high, ends}
+use Rattle.sheet.specs.Joints.{jointPoint}
 use Rattle.sheet.specs.Parts.{pads, padsOf}
 use Rattle.sheet.specs.Drawings.{Sheet, marksOf, joints, zeroJoint}
 use Rattle.sheet.proofs.Points.{same-reads}
@@ -22,10 +22,10 @@ use Rattle.net_numbers.specs.Netted.{endsOf, isPower, netOn, numberOfJoi
 use Rattle.lists.proofs.Finding.{span-found}
 
 -- a point with a joint has that joint's row for its number
-pub number-found : (js : List Joint) (p : Point) → (j : Joint) × j ∈ js × (place j ≡ p) → (m : ℕ) × (numberOfJoint js p ≡ suc m) × (m < length js) × (p ≡ place (getD js m zeroJoint))
+pub number-found : (js : List Joint) (p : Point) → (j : Joint) × j ∈ js × (jointPoint j ≡ p) → (m : ℕ) × (numberOfJoint js p ≡ suc m) × (m < length js) × (p ≡ jointPoint (getD js m zeroJoint))
 unfolding numberOfJoint
 number-found js p t =
-    let r = span-found (λ j. same-reads p (place j)) zeroJoint (t .1) (sym (t .2)) in
+    let r = span-found (λ j. same-reads p (jointPoint j)) zeroJoint (t .1) (sym (t .2)) in
     (_, refl, r .0, r .1)
 
 -- a wire's ends are among all wire ends
@@ -38,7 +38,7 @@ unfolding ends
 high-end m = in-gather tips m (∈-tail (∈-head refl))
 
 module _ (s : Sheet) where
-  all-joints : (p : Point) → p ∈ marksOf s → (j : Joint) × j ∈ joints s × (place j ≡ p)
+  all-joints : (p : Point) → p ∈ marksOf s → (j : Joint) × j ∈ joints s × (jointPoint j ≡ p)
   unfolding joints
   all-joints = joints-listed (marksOf s) .all
 
@@ -56,7 +56,7 @@ module _ (s : Sheet) where
       let a = number-found (joints s) p (all-joints p m) in
       let b = number-found (joints s) q (all-joints q n) in
       let i : a .0 ≡ b .0 = omega (arith, a .1, b .1, e) in
-      a .3 ∙ ap (λ k. place (getD (joints s) k zeroJoint)) i ∙ sym (b .3)
+      a .3 ∙ ap (λ k. jointPoint (getD (joints s) k zeroJoint)) i ∙ sym (b .3)
 
   own-numbers : OwnNumbers (λ p. p ∈ marksOf s) (numberOfJoint (joints s)) (netOn s) (padsOf (s .parts))
   unfolding numberOfJoint

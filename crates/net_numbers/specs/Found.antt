@@ -9,7 +9,7 @@ use Rattle.symbol.specs.declared.Point.{Point}
 use Rattle.sheet.specs.declared.Wire.{Wire}
 use Rattle.sheet.specs.declared.Joint.{Joint}
 use Rattle.sheet.specs.declared.Joints.{Joints}
-use Rattle.sheet.specs.Joints.{place, Rising}
+use Rattle.sheet.specs.Joints.{jointPoint, Rising}
 use Rattle.sheet.specs.Drawings.{jointRows}
 use Rattle.joints.specs.Keys.{spot}
 use Rattle.nets.specs.declared.Links.{Links}
@@ -23,7 +23,7 @@ pub record Ascending (keys : List ℕ) (n : ℕ) : Type 0 where
   pub rise : (i j : ℕ) → i < j → j < n → getD keys i 0 < getD keys j 0
 
 -- i is the place of the key, if it has one
-pub record PlaceOf (keys : List ℕ) (n key i : ℕ) : Type 0 where
+pub record IndexOf (keys : List ℕ) (n key i : ℕ) : Type 0 where
   pub low : i < 1408
   pub only : (m : ℕ) → m < n → getD keys m 0 ≡ key → i ≡ m
 
@@ -35,7 +35,7 @@ pub record NumberAt (keys : List ℕ) (n : ℕ) (p : Point) (k : ℕ) : Type 0 w
 pub record Jointed (ps : List Point) (js : Joints) : Type 0 where
   pub room : js .count ≤ 1408
   pub rising : Rising (jointRows js)
-  pub all : (p : Point) → p ∈ ps → (j : Joint) × j ∈ jointRows js × (place j ≡ p)
+  pub all : (p : Point) → p ∈ ps → (j : Joint) × j ∈ jointRows js × (jointPoint j ≡ p)
 
 -- the table has the wires by the numbers of the joints at their ends
 pub record LinksIn (js : List Joint) (ws : List Wire) (t : Links) : Type 0 where

@@ -4,14 +4,14 @@ use mathlib.Core.Bool.{Bool, not}
 use mathlib.Core.List.{List, map}
 use lib.Dec.{eqb}
 use Rattle.lists.specs.Lists.{keep}
-use Rattle.lists.specs.Places.{span}
+use Rattle.lists.specs.Span.{span}
 use Rattle.symbol.specs.declared.Point.{Point}
 use Rattle.sheet.specs.declared.Wire.{Wire}
 use Rattle.sheet.specs.declared.Component.{Component}
 use Rattle.sheet.specs.declared.Joint.{Joint}
 use Rattle.sheet.specs.Points.{same}
-use Rattle.sheet.specs.Lines.{tip, low, high}
-use Rattle.sheet.specs.Joints.{place}
+use Rattle.sheet.specs.Geometry.{tip, low, high}
+use Rattle.sheet.specs.Joints.{jointPoint}
 use Rattle.sheet.specs.Parts.{padsOf}
 use Rattle.sheet.specs.Drawings.{Sheet, joints}
 use Rattle.nets.specs.Nets.{Net}
@@ -31,7 +31,7 @@ netOn s = record { links = map endsOf (s .wires); powers = padsOf (keep isPower 
 
 -- the number of the joint at a point: its row, counted from 1
 unfoldable pub numberOfJoint : List Joint → Point → ℕ
-numberOfJoint js p = suc (span (λ j. not (same p (place j))) js)
+numberOfJoint js p = suc (span (λ j. not (same p (jointPoint j))) js)
 
 -- the net numbers of all pads, "going through the components in row order and each one's pads in symbol order"
 unfoldable pub netNumbers : Sheet → List ℕ

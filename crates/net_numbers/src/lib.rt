@@ -3,13 +3,13 @@ ghost use mathlib.Core.Path.{_≡_};
 ghost use Prim.Native.Nat.{_≤_};
 ghost use Rattle.lists.specs.Lists.{keep};
 ghost use Rattle.lists.specs.Tables.{pad};
-ghost use Rattle.sheet.specs.Lines.{ends};
+ghost use Rattle.sheet.specs.Geometry.{ends};
 ghost use Rattle.sheet.specs.Drawings.{wireRows, componentRows, jointRows, listsOf};
 ghost use Rattle.sheet.specs.Rules.{Lawful};
 ghost use Rattle.wires.specs.Tables.{pointRows};
 ghost use Rattle.parts.specs.Tables.{TabledParts};
 ghost use Rattle.net_numbers.specs.Netted.{isPower, netNumbers};
-ghost use Rattle.net_numbers.specs.Found.{Ascending, PlaceOf, NumberAt, Jointed, LinksIn, PadsIn};
+ghost use Rattle.net_numbers.specs.Found.{Ascending, IndexOf, NumberAt, Jointed, LinksIn, PadsIn};
 use joints::keys::joint_keys;
 use joints::keys::key;
 use nets::Link;
@@ -24,13 +24,13 @@ use sheet::Joints;
 use sheet::Wires;
 use symbol::Point;
 use wires::Points;
-use wires::lines::high_tip;
-use wires::lines::low_tip;
+use wires::geometry::high_tip;
+use wires::geometry::low_tip;
 
 // The place of a key among rising ones, by halving.
 fn find(keys: &[u64; 1408], n: usize, k: u64) -> usize
     requires { ⌜ Ascending (now keys) n ⌝ }
-    ensures { λ r. ⌜ PlaceOf (now (keys .entry)) n k r ⌝ }
+    ensures { λ r. ⌜ IndexOf (now (keys .entry)) n k r ⌝ }
 {
     let mut low = 0;
     let mut high = n;

@@ -2,11 +2,11 @@
 use mathlib.Core.Path.{_≡_, refl}
 use mathlib.Core.List.{[], _∷_}
 use Rattle.lists.specs.Lists.{any, keep, insert, gather}
-use Rattle.lists.specs.Places.{span}
+use Rattle.lists.specs.Span.{span}
 use Rattle.edge.specs.Coordinates.{biased}
 use Rattle.label.specs.Labels.{labelPart}
 use Rattle.sheet.specs.Points.{same, rises}
-use Rattle.sheet.specs.Lines.{ends, inside, on, meets, first}
+use Rattle.sheet.specs.Geometry.{ends, inside, on, meets, first}
 use Rattle.sheet.specs.Split.{splitOne, splitAt, splitAll}
 use Rattle.sheet.specs.Run.{kept, run, rest, standing, lay, layWire, drawWire}
 use Rattle.sheet.specs.Joints.{bump, jointsOf}

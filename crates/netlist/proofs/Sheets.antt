@@ -16,7 +16,7 @@ use Rattle.sheet.specs.declared.Component.{Component}
 use Rattle.sheet.specs.Parts.{pads, padsOf}
 use Rattle.sheet.specs.Drawings.{Sheet}
 use Rattle.nets.specs.Nets.{At, first, later, here}
-use Rattle.nets.proofs.Places.{at-low, at-some, at-in}
+use Rattle.nets.proofs.At.{at-low, at-some, at-in}
 use Rattle.nets.proofs.Same.{SameNets, same-numbers}
 use Rattle.net_numbers.specs.Netted.{netOn, netNumbers}
 use Rattle.net_numbers.proofs.Numbered.{numbered}

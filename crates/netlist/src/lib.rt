@@ -1,5 +1,5 @@
 // The wiring list of a drawing, as bytes in a lent buffer, and the number of its loose points.
-mod lines;
+mod listing;
 
 ghost use mathlib.Core.Path.{_≡_};
 ghost use mathlib.Core.List.{map};
@@ -11,7 +11,7 @@ ghost use Rattle.text.specs.Text.{Put, Room};
 ghost use Rattle.netlist.specs.Listing.{entry, nth, listWith, listOf, looseIn, looseOf};
 ghost use Rattle.netlist.specs.Answers.{answerOf, bufferOf, netlistOf, netlistIn, looseAnswer};
 use lawful::check;
-use lines::put_lines;
+use listing::put_lines;
 use net_numbers::pad_numbers;
 use sheet::Components;
 use sheet::Drawing;

@@ -1,5 +1,5 @@
 -- Laws on nets and their numbers. `Told`, `Same` and `Engine` have the theorems.
-pub mod Places
+pub mod At
 pub mod Chains
 pub mod Rows
 pub mod Tells

@@ -6,7 +6,7 @@ use Prim.Native.Nat.{ℕ}
 use native.Mathlib.Omega.{arith}
 use lib.ListN.{length}
 use Rattle.nets.specs.Nets.{Net, At, Fed, OneNet, Numbered, SameOn}
-use Rattle.nets.proofs.Places.{at-low, at-some, at-one, at-in, in-at}
+use Rattle.nets.proofs.At.{at-low, at-some, at-one, at-in, in-at}
 use Rattle.nets.proofs.Order.{Alike, order-told}
 
 -- `SameOn` of two rows of pads, place by place

@@ -12,7 +12,7 @@ use Rattle.lists.proofs.Lists.{in-cons}
 use Rattle.lists.proofs.Tests.{decide, eqb-reads, leb-reads}
 use Rattle.nets.specs.Nets.{Linked, forth, back, Chain, here, on, Fed, OneNet, by-chain, both-fed}
 use Rattle.nets.specs.Numbers.{merged, netFrom}
-use Rattle.nets.proofs.Places.{onto, onto-in, in-onto}
+use Rattle.nets.proofs.At.{onto, onto-in, in-onto}
 use Rattle.nets.proofs.Chains.{netWith, net-back, net-then, net-fed, fed-more, net-more}
 
 module _ {P : Type 0} (J : P → Type 0) (powers : List P) where

@@ -11,7 +11,7 @@ use Rattle.lists.proofs.Lists.{any-reads}
 use Rattle.lists.proofs.Tests.{Reads, decide, choose, eqb-reads, reads-as}
 use Rattle.nets.specs.Nets.{Net, here, Fed, OneNet, by-chain, both-fed, Numbered}
 use Rattle.nets.specs.Numbers.{merged, netFrom, firstNet, netOf, byNumber, numbering, numbersOf}
-use Rattle.nets.proofs.Places.{at-in, at-map}
+use Rattle.nets.proofs.At.{at-in, at-map}
 use Rattle.nets.proofs.Chains.{netWith}
 use Rattle.nets.proofs.Tells.{Tells, tells-all, tells-one, tells-fed}
 use Rattle.nets.proofs.Order.{order-low}

@@ -11,7 +11,7 @@ use lib.IntN.{negℤ-negℤ}
 use lib.ListN.{length, getD, List·getD-eq-default}
 use borrow.Author.Tests.{lt-ltb, le-ltb}
 use Rattle.lists.specs.Lists.{any, all}
-use Rattle.lists.specs.Places.{span}
+use Rattle.lists.specs.Span.{span}
 use Rattle.lists.proofs.Tests.{Reads, pass, fail, ltb-reads}
 use Rattle.orientation.specs.Orientations.{rotMirror, eight, zeros, sameOf, known, eighth, numberOf, numberedOf, fourAre, noFour, turnIs, noTurn, turnBy, turnedBy, rights, lefts, mirrors, rightOf, leftOf, mirrorOf}
 use Rattle.orientation.specs.declared.RotMirror.{RotMirror}

@@ -6,7 +6,7 @@ use lib.Dec.{eqb, ltb}
 use lib.IntN.{ℤ, pos, negsuc, negℤ}
 use lib.ListN.{getD}
 use Rattle.lists.specs.Lists.{any}
-use Rattle.lists.specs.Places.{span}
+use Rattle.lists.specs.Span.{span}
 use Rattle.orientation.specs.declared.RotMirror.{RotMirror}
 use Rattle.orientation.specs.declared.FourNumbers.{FourNumbers}
 use Rattle.orientation.specs.declared.Turned.{Turned}

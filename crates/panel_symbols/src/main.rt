@@ -17,8 +17,8 @@ fn put_number(n: u16) {
 
 // A space and a coordinate; one outside the range of wire ends as *.
 fn put_coordinate(x: i32) {
-    let p = edge::place(x);
-    if !p.inside {
+    let p = edge::held_coordinate(x);
+    if !p.within {
         put(b" *");
         return;
     }

@@ -8,7 +8,7 @@ use Rattle.lists.proofs.Tests.{clash, Reads, reads-as, true-reads, not-reads, a
 use Rattle.lists.proofs.Lists.{pairs-reads, links-reads}
 use Rattle.sheet.specs.declared.Wire.{Wire}
 use Rattle.sheet.specs.declared.Joint.{Joint}
-use Rattle.sheet.specs.Joints.{place}
+use Rattle.sheet.specs.Joints.{jointPoint}
 use Rattle.sheet.specs.Parts.{position}
 use Rattle.sheet.specs.Drawings.{Sheet}
 use Rattle.sheet.specs.Rules.{Share, Upward, upright, up, along, Rule2, Rule7}
@@ -44,7 +44,7 @@ upward-reads a b = reads-as (into, out) (or-reads
 pub reads7 : (s : Sheet) (js : List Joint) → Reads (Rule7 s js) (check7 s js)
 unfolding check7
 reads7 s js = reads-as (
-  λ t. record { wires-rise = rule-7-next .1 (t .0); components-rise = rise-chain position .1 (t .1 .0); joints-rise = rise-chain place .1 (t .1 .1) },
-  λ r. (rule-7-next .0 (r .wires-rise), (rise-chain position .0 (r .components-rise), rise-chain place .0 (r .joints-rise))),
+  λ t. record { wires-rise = rule-7-next .1 (t .0); components-rise = rise-chain position .1 (t .1 .0); joints-rise = rise-chain jointPoint .1 (t .1 .1) },
+  λ r. (rule-7-next .0 (r .wires-rise), (rise-chain position .0 (r .components-rise), rise-chain jointPoint .0 (r .joints-rise))),
 )
-    (and-reads (links-reads upward-reads (s .wires)) (and-reads (links-reads (λ b c. rises-reads (position b) (position c)) (s .parts)) (links-reads (λ i j. rises-reads (place i) (place j)) js)))
+    (and-reads (links-reads upward-reads (s .wires)) (and-reads (links-reads (λ b c. rises-reads (position b) (position c)) (s .parts)) (links-reads (λ i j. rises-reads (jointPoint i) (jointPoint j)) js)))

@@ -6,7 +6,7 @@ use Rattle.lists.specs.Lists.{pairs, links}
 use Rattle.sheet.specs.declared.Wire.{Wire}
 use Rattle.sheet.specs.declared.Joint.{Joint}
 use Rattle.sheet.specs.Points.{rises}
-use Rattle.sheet.specs.Joints.{place}
+use Rattle.sheet.specs.Joints.{jointPoint}
 use Rattle.sheet.specs.Parts.{ahead}
 use Rattle.sheet.specs.Drawings.{Sheet}
 
@@ -30,4 +30,4 @@ upward a b =
 
 -- rule 7, each row against the next
 unfoldable pub check7 : Sheet → List Joint → Bool
-check7 s js = links upward (s .wires) && (links ahead (s .parts) && links (λ i j. rises (place i) (place j)) js)
+check7 s js = links upward (s .wires) && (links ahead (s .parts) && links (λ i j. rises (jointPoint i) (jointPoint j)) js)

@@ -5,7 +5,7 @@ ghost use Prim.Native.Nat.{_≤_};
 ghost use lib.ListN.{drop};
 ghost use Rattle.lists.specs.Lists.{all, links};
 ghost use Rattle.sheet.specs.Points.{rises};
-ghost use Rattle.sheet.specs.Joints.{place};
+ghost use Rattle.sheet.specs.Joints.{jointPoint};
 ghost use Rattle.sheet.specs.Parts.{ahead};
 ghost use Rattle.sheet.specs.Drawings.{wireRows, componentRows, jointRows};
 ghost use Rattle.row_order.specs.RowOrder.{share, check2, upward};
@@ -72,7 +72,7 @@ fn component_before(a: Component, b: Component) -> bool
 }
 
 fn joint_before(a: Joint, b: Joint) -> bool
-    ensures { λ r. ⌜ r ≡ rises (place a) (place b) ⌝ }
+    ensures { λ r. ⌜ r ≡ rises (jointPoint a) (jointPoint b) ⌝ }
 {
     (a.y < b.y) | ((a.y == b.y) & (a.x < b.x))
 }
@@ -124,7 +124,7 @@ pub fn components_rise(cs: Components) -> bool
 // Joint rows strictly rise.
 pub fn joints_rise(js: Joints) -> bool
     requires { ⌜ js .count ≤ 1408 ⌝ }
-    ensures { λ r. ⌜ r ≡ links (λ i j. rises (place i) (place j)) (jointRows js) ⌝ }
+    ensures { λ r. ⌜ r ≡ links (λ i j. rises (jointPoint i) (jointPoint j)) (jointRows js) ⌝ }
 {
     let n = js.count;
     if n == 0 {

@@ -14,7 +14,7 @@ use Rattle.sheet.specs.declared.Joint.{Joint}
 use Rattle.sheet.specs.declared.Joints.{Joints}
 use Rattle.sheet.specs.declared.Drawing.{Drawing}
 use Rattle.sheet.specs.Points.{same, rises}
-use Rattle.sheet.specs.Joints.{place, jointsOf}
+use Rattle.sheet.specs.Joints.{jointPoint, jointsOf}
 use Rattle.sheet.specs.Parts.{padsOf, ahead}
 use Rattle.sheet.specs.Drawings.{Sheet, joints, zeroJoint, jointTable, jointRows, listsOf, marksOf}
 use Rattle.sheet.specs.Wiring.{AllFit}
@@ -51,14 +51,14 @@ module _ (d : Drawing) (w : Within d) (js : Joints) (e : js ≡ jointTable (join
   unfolding joints
   joints-fit = subst (λ (t : Joints). t .count ≤ 1408) (sym e) (joint-room room)
 
-  pub by-3 : all (λ j. free (listsOf d .wires) (place j)) (jointRows js) ≡ check3 (listsOf d .wires) (padsOf (listsOf d .parts))
-  by-3 = ap (all (λ j. free (listsOf d .wires) (place j))) rows-are ∙ rule-3-joints (listsOf d .wires) (padsOf (listsOf d .parts))
+  pub by-3 : all (λ j. free (listsOf d .wires) (jointPoint j)) (jointRows js) ≡ check3 (listsOf d .wires) (padsOf (listsOf d .parts))
+  by-3 = ap (all (λ j. free (listsOf d .wires) (jointPoint j))) rows-are ∙ rule-3-joints (listsOf d .wires) (padsOf (listsOf d .parts))
 
   pub by-4 : AllFit (listsOf d .wires) → check2 (listsOf d .wires) ≡ true → all (parted (listsOf d .wires) (jointRows js)) (listsOf d .wires) ≡ check4 (listsOf d .wires) (padsOf (listsOf d .parts))
   by-4 fits two = ap (λ (l : List Joint). all (parted (listsOf d .wires) l) (listsOf d .wires)) rows-are ∙ rule-4-counts (padsOf (listsOf d .parts)) fits (holds (reads2 (listsOf d .wires)) (subst T (sym two) tt))
 
-  pub by-6 : (pairs (λ i j. not (same (place i) (place j))) (jointRows (d .joints)) && (all (λ i. any (sameRow i) (jointRows (d .joints))) (jointRows js) && all (λ j. any (sameRow j) (jointRows js)) (jointRows (d .joints)))) ≡ check6 (jointRows (d .joints)) (marksOf (listsOf d))
-  by-6 = ap (λ (l : List Joint). pairs (λ i j. not (same (place i) (place j))) (jointRows (d .joints)) && (all (λ i. any (sameRow i) (jointRows (d .joints))) l && all (λ j. any (sameRow j) l) (jointRows (d .joints)))) rows-are ∙ rule-6-rows (jointRows (d .joints)) (marksOf (listsOf d))
+  pub by-6 : (pairs (λ i j. not (same (jointPoint i) (jointPoint j))) (jointRows (d .joints)) && (all (λ i. any (sameRow i) (jointRows (d .joints))) (jointRows js) && all (λ j. any (sameRow j) (jointRows js)) (jointRows (d .joints)))) ≡ check6 (jointRows (d .joints)) (marksOf (listsOf d))
+  by-6 = ap (λ (l : List Joint). pairs (λ i j. not (same (jointPoint i) (jointPoint j))) (jointRows (d .joints)) && (all (λ i. any (sameRow i) (jointRows (d .joints))) l && all (λ j. any (sameRow j) l) (jointRows (d .joints)))) rows-are ∙ rule-6-rows (jointRows (d .joints)) (marksOf (listsOf d))
 
 -- ---- the ways out
 
@@ -103,6 +103,6 @@ module _ (d : Drawing) where
     unfolding fromRule5
     at-0 e f g = rw (← met, e, f, g)
 
-  pub rises-7 : {a b c : Bool} → a ≡ links upward (s .wires) → b ≡ links ahead (s .parts) → c ≡ links (λ i j. rises (place i) (place j)) (jointRows (d .joints)) → (a && (b && c)) ≡ check7 s (jointRows (d .joints))
+  pub rises-7 : {a b c : Bool} → a ≡ links upward (s .wires) → b ≡ links ahead (s .parts) → c ≡ links (λ i j. rises (jointPoint i) (jointPoint j)) (jointRows (d .joints)) → (a && (b && c)) ≡ check7 s (jointRows (d .joints))
   unfolding check7
   rises-7 p q r = λ i. p i && (q i && r i)

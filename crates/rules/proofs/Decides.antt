@@ -10,11 +10,11 @@ use Rattle.lists.proofs.Lists.{any-reads, all-reads, pairs-reads, keep-old}
 use Rattle.symbol.specs.declared.Point.{Point}
 use Rattle.sheet.specs.declared.Wire.{Wire}
 use Rattle.sheet.specs.declared.Joint.{Joint}
-use Rattle.sheet.specs.Lines.{ends, marks, Inside}
-use Rattle.sheet.specs.Joints.{place, number}
+use Rattle.sheet.specs.Geometry.{ends, marks, Inside}
+use Rattle.sheet.specs.Joints.{jointPoint, number}
 use Rattle.sheet.specs.Rules.{endsAt, Rule3, Rule4, Rule6}
 use Rattle.sheet.proofs.Points.{same-reads, member-reads}
-use Rattle.sheet.proofs.Lines.{inside-reads, ends-in, in-ends}
+use Rattle.sheet.proofs.Geometry.{inside-reads, ends-in, in-ends}
 use Rattle.sheet.proofs.JointRows.{number-in}
 use Rattle.rules.specs.Check.{free, check3, bare, check4, check6}
 
@@ -58,6 +58,6 @@ pub reads6 : (js : List Joint) (ps : List Point) → Reads (Rule6 js ps) (check6
 unfolding check6
 reads6 js ps = reads-as
     (λ t. record { once = t .0; all = t .1 .0; only = λ j m. t .1 .1 j m .0; right = λ j m. t .1 .1 j m .1 }, λ l. (l .once, (l .all, λ j m. (l .only j m, l .right j m))))
-    (and-reads (pairs-reads (λ i j. not-reads (same-reads (place i) (place j))) js)
-    (and-reads (all-reads (λ p. any-reads (λ j. same-reads (place j) p) js) ps)
-    (all-reads (λ j. and-reads (member-reads (place j) ps) (eqb-reads (j .count) (number (place j) ps))) js)))
+    (and-reads (pairs-reads (λ i j. not-reads (same-reads (jointPoint i) (jointPoint j))) js)
+    (and-reads (all-reads (λ p. any-reads (λ j. same-reads (jointPoint j) p) js) ps)
+    (all-reads (λ j. and-reads (member-reads (jointPoint j) ps) (eqb-reads (j .count) (number (jointPoint j) ps))) js)))

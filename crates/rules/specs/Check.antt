@@ -11,8 +11,8 @@ use Rattle.sheet.specs.declared.Component.{Component}
 use Rattle.sheet.specs.declared.Joint.{Joint}
 use Rattle.sheet.specs.declared.Drawing.{Drawing}
 use Rattle.sheet.specs.Points.{same}
-use Rattle.sheet.specs.Lines.{ends, marks, inside}
-use Rattle.sheet.specs.Joints.{place, number}
+use Rattle.sheet.specs.Geometry.{ends, marks, inside}
+use Rattle.sheet.specs.Joints.{jointPoint, number}
 use Rattle.sheet.specs.Parts.{padsOf, touches}
 use Rattle.sheet.specs.Drawings.{listsOf, jointRows, marksOf}
 use Rattle.sheet.specs.Rules.{endsAt}
@@ -60,9 +60,9 @@ touchingFrom i (c ∷ cs) = touchingOne i c (suc i) cs (touchingFrom (suc i) cs)
 -- rule 6: no point twice; each wire end and pad has a row; each row lies at one, and has their number
 unfoldable pub check6 : List Joint → List Point → Bool
 check6 js ps =
-    pairs (λ i j. not (same (place i) (place j))) js
-    && (all (λ p. any (λ j. same (place j) p) js) ps
-    && all (λ j. any (same (place j)) ps && eqb (j .count) (number (place j) ps)) js)
+    pairs (λ i j. not (same (jointPoint i) (jointPoint j))) js
+    && (all (λ p. any (λ j. same (jointPoint j) p) js) ps
+    && all (λ j. any (same (jointPoint j)) ps && eqb (j .count) (number (jointPoint j) ps)) js)
 
 -- ---- the first broken rule
 

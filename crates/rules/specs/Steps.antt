@@ -9,8 +9,8 @@ use Rattle.sheet.specs.declared.Joint.{Joint}
 use Rattle.sheet.specs.declared.Drawing.{Drawing}
 use Rattle.parts.specs.Tables.{PartsFit}
 use Rattle.sheet.specs.Points.{same}
-use Rattle.sheet.specs.Lines.{high, tip}
-use Rattle.sheet.specs.Joints.{place, countAt}
+use Rattle.sheet.specs.Geometry.{high, tip}
+use Rattle.sheet.specs.Joints.{jointPoint, countAt}
 use Rattle.merge.specs.Following.{goesOn}
 
 -- the wire goes on in line in no other, or more than the two ends lie where they meet
@@ -19,7 +19,7 @@ parted ws js a = not (any (goesOn a) ws) || not (eqb (countAt (tip high a) js) 2
 
 -- the two joint rows are one
 unfoldable pub sameRow : Joint → Joint → Bool
-sameRow i j = same (place i) (place j) && eqb (i .count) (j .count)
+sameRow i j = same (jointPoint i) (jointPoint j) && eqb (i .count) (j .count)
 
 -- rule 1, as far as the later rules need it: the counts are within the rooms, and components meet the limits
 pub record Within (d : Drawing) : Type 0 where

@@ -2,7 +2,7 @@
 ghost use mathlib.Core.Path.{_≡_};
 ghost use Prim.Native.Nat.{_≤_};
 ghost use Rattle.lists.specs.Lists.{any, all};
-ghost use Rattle.sheet.specs.Joints.{place, countAt};
+ghost use Rattle.sheet.specs.Joints.{jointPoint, countAt};
 ghost use Rattle.sheet.specs.Drawings.{wireRows, jointRows};
 ghost use Rattle.rules.specs.Check.{free};
 ghost use Rattle.merge.specs.Following.{goesOn};
@@ -12,8 +12,8 @@ use sheet::Joints;
 use sheet::Wire;
 use sheet::Wires;
 use symbol::Point;
-use wires::lines::high_tip;
-use wires::lines::inside;
+use wires::geometry::high_tip;
+use wires::geometry::inside;
 
 // The point lies strictly inside no wire.
 fn is_free(ws: Wires, p: Point) -> bool
@@ -35,7 +35,7 @@ fn is_free(ws: Wires, p: Point) -> bool
 // No joint lies strictly inside a wire.
 pub fn none_inside(ws: Wires, js: Joints) -> bool
     requires { ⌜ (ws .count ≤ 512) × (js .count ≤ 1408) ⌝ }
-    ensures { λ r. ⌜ r ≡ all (λ j. free (wireRows ws) (place j)) (jointRows js) ⌝ }
+    ensures { λ r. ⌜ r ≡ all (λ j. free (wireRows ws) (jointPoint j)) (jointRows js) ⌝ }
 {
     let n = js.count;
     let mut i = 0;
@@ -75,7 +75,7 @@ fn count_at(js: Joints, p: Point) -> u16
     let mut i = 0;
     while i < n {
         let j = js.rows[i];
-        if wires::lines::same(p, Point { x: j.x, y: j.y }) {
+        if wires::geometry::same(p, Point { x: j.x, y: j.y }) {
             return j.count;
         }
         i += 1;

@@ -5,7 +5,7 @@ pub mod listed;
 
 ghost use mathlib.Core.Path.{_≡_};
 ghost use Prim.Native.Nat.{_≤_};
-ghost use Rattle.sheet.specs.Lines.{marks};
+ghost use Rattle.sheet.specs.Geometry.{marks};
 ghost use Rattle.sheet.specs.Joints.{jointsOf};
 ghost use Rattle.sheet.specs.Parts.{padsOf};
 ghost use Rattle.sheet.specs.Drawings.{wireRows, componentRows, jointTable, listsOf, marksOf};

@@ -5,14 +5,14 @@ ghost use Prim.Native.Nat.{_≤_};
 ghost use lib.ListN.{drop};
 ghost use Rattle.lists.specs.Lists.{any, all, pairs};
 ghost use Rattle.sheet.specs.Points.{same};
-ghost use Rattle.sheet.specs.Joints.{place};
+ghost use Rattle.sheet.specs.Joints.{jointPoint};
 ghost use Rattle.sheet.specs.Drawings.{jointRows};
 ghost use Rattle.rules.specs.Steps.{sameRow};
 use sheet::Joint;
 use sheet::Joints;
 
-fn is_same_place(i: Joint, j: Joint) -> bool
-    ensures { λ r. ⌜ r ≡ same (place i) (place j) ⌝ }
+fn at_one_point(i: Joint, j: Joint) -> bool
+    ensures { λ r. ⌜ r ≡ same (jointPoint i) (jointPoint j) ⌝ }
 {
     (i.x == j.x) & (i.y == j.y)
 }
@@ -26,13 +26,13 @@ fn is_same_row(i: Joint, j: Joint) -> bool
 // None of the rows from k on lies where a lies.
 fn apart_from(js: Joints, a: Joint, k: usize) -> bool
     requires { ⌜ js .count ≤ 1408 ⌝ }
-    ensures { λ r. ⌜ r ≡ all (λ b. not (same (place a) (place b))) (drop k (jointRows js)) ⌝ }
+    ensures { λ r. ⌜ r ≡ all (λ b. not (same (jointPoint a) (jointPoint b))) (drop k (jointRows js)) ⌝ }
 {
     let n = js.count;
     let mut j = k;
     while j < n {
         let b = js.rows[j];
-        if is_same_place(a, b) {
+        if at_one_point(a, b) {
             return false;
         }
         j += 1;
@@ -43,7 +43,7 @@ fn apart_from(js: Joints, a: Joint, k: usize) -> bool
 // No two rows lie at one point.
 fn all_apart(js: Joints) -> bool
     requires { ⌜ js .count ≤ 1408 ⌝ }
-    ensures { λ r. ⌜ r ≡ pairs (λ i j. not (same (place i) (place j))) (jointRows js) ⌝ }
+    ensures { λ r. ⌜ r ≡ pairs (λ i j. not (same (jointPoint i) (jointPoint j))) (jointRows js) ⌝ }
 {
     let n = js.count;
     let mut i = 0;
@@ -94,7 +94,7 @@ fn all_among(is: Joints, js: Joints) -> bool
 // The rows are those counted afresh, in any order, each once.
 pub fn all_listed(js: Joints, counted: Joints) -> bool
     requires { ⌜ (js .count ≤ 1408) × (counted .count ≤ 1408) ⌝ }
-    ensures { λ r. ⌜ r ≡ (pairs (λ i j. not (same (place i) (place j))) (jointRows js) && (all (λ i. any (sameRow i) (jointRows js)) (jointRows counted) && all (λ j. any (sameRow j) (jointRows counted)) (jointRows js))) ⌝ }
+    ensures { λ r. ⌜ r ≡ (pairs (λ i j. not (same (jointPoint i) (jointPoint j))) (jointRows js) && (all (λ i. any (sameRow i) (jointRows js)) (jointRows counted) && all (λ j. any (sameRow j) (jointRows counted)) (jointRows js))) ⌝ }
 {
     all_apart(js) & (all_among(counted, js) & all_among(js, counted))
 }

@@ -34,12 +34,6 @@ pub fn is_at(line: &[u8], at: usize, b: u8) -> bool
     }
 }
 
-fn wide(b: u8) -> u32
-    ensures { λ r. ⌜ r ≡ b ⌝ }
-{
-    b as u32
-}
-
 // The value of the digit at an index, or 10 where no digit stands.
 fn digit_at(line: &[u8], at: usize) -> u32
     ensures { λ r. ⌜ r ≡ leadingDigit (drop at (now (line .entry))) ⌝ }
@@ -54,7 +48,7 @@ fn digit_at(line: &[u8], at: usize) -> u32
     if b > b'9' {
         return 10;
     }
-    wide(b - b'0')
+    (b - b'0') as u32
 }
 
 // At most five digits from an index on, behind a first digit.

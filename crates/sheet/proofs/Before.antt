@@ -12,9 +12,9 @@ use Rattle.lists.proofs.Lists.{in-cons, in-one}
 use Rattle.lists.proofs.Order.{rows-two, rows-all, rows-insert, rows-ext}
 use Rattle.symbol.specs.declared.Point.{Point}
 use Rattle.sheet.specs.declared.Wire.{Wire}
-use Rattle.sheet.specs.Lines.{EndAt, first, Inside, Follows, Before, turned, next-line, same-line}
+use Rattle.sheet.specs.Geometry.{EndAt, first, Inside, Follows, Before, turned, next-line, same-line}
 use Rattle.sheet.specs.Wiring.{AllFit, Fits}
-use Rattle.sheet.proofs.Lines.{On, same-dir, end-on, inside-end}
+use Rattle.sheet.proofs.Geometry.{On, same-dir, end-on, inside-end}
 
 -- two wires of one line: the first ends before the second starts
 pub before-line : {a b : Wire} → Before a b → a .vertical ≡ b .vertical → a .line ≡ b .line → a .end ≤ b .start
@@ -131,13 +131,13 @@ insert-order {w} f fs a o = rows-insert first w (λ v m. first-reads f (fs v m) 
 -- ---- only the next row can go on in line
 
 follows-self : {a : Wire} → Fits a → Follows a a → ⊥
-follows-self l f = omega (arith, l .long, f .place)
+follows-self l f = omega (arith, l .long, f .end)
 
 follows-back : {a b : Wire} → Fits a → Fits b → Before a b → Follows b a → ⊥
-follows-back k l x f = omega (arith, before-line x (sym (f .dir)) (sym (f .line)), k .long, l .long, f .place)
+follows-back k l x f = omega (arith, before-line x (sym (f .dir)) (sym (f .line)), k .long, l .long, f .end)
 
 follows-over : {a b c : Wire} → Fits b → Before a b → Before b c → Follows a c → ⊥
-follows-over l x y f = let t = between x y (f .dir) (f .line) in omega (arith, before-line x (t .0) (t .1), before-line y (sym (t .0) ∙ f .dir) (sym (t .1) ∙ f .line), l .long, f .place)
+follows-over l x y f = let t = between x y (f .dir) (f .line) in omega (arith, before-line x (t .0) (t .1), before-line y (sym (t .0) ∙ f .dir) (sym (t .1) ∙ f .line), l .long, f .end)
 
 pub follows-next : {R : Wire → Wire → Type 0} {ws : List Wire} → Rows Before ws → AllFit ws → Adjacent R ws → (a b : Wire) → a ∈ ws → b ∈ ws → Follows a b → R a b
 follows-next {R} none fits empty a b m n = absurd (∈-nil m)

@@ -3,7 +3,7 @@ use mathlib.Core.Path.{refl}
 use Rattle.lists.specs.Lists.{any, keep, insert, gather}
 use Rattle.edge.specs.Coordinates.{biased}
 use Rattle.sheet.specs.Points.{same, rises}
-use Rattle.sheet.specs.Lines.{ends, inside, on, meets, first}
+use Rattle.sheet.specs.Geometry.{ends, inside, on, meets, first}
 use Rattle.sheet.specs.Split.{splitOne, splitAt, splitAll}
 use Rattle.sheet.specs.Merge.{heldApart, joins, glue, mergeBy, merge}
 use Rattle.sheet.specs.Run.{kept, run, rest, standing, lay, layWire, drawWire}

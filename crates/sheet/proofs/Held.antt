@@ -11,11 +11,11 @@ use Rattle.lists.proofs.Lists.{any-reads}
 use Rattle.symbol.specs.declared.Point.{Point}
 use Rattle.sheet.specs.declared.Wire.{Wire}
 use Rattle.sheet.specs.Points.{same}
-use Rattle.sheet.specs.Lines.{point, tip, EndAt, Ends, Follows, Side, low, high}
+use Rattle.sheet.specs.Geometry.{point, tip, EndAt, Ends, Follows, Side, low, high}
 use Rattle.sheet.specs.Merge.{heldApart, joins, join, glue, mergeBy}
 use Rattle.sheet.specs.Wiring.{HeldApart}
 use Rattle.sheet.proofs.Points.{same-reads, member-reads}
-use Rattle.sheet.proofs.Lines.{ends-is, is-ends}
+use Rattle.sheet.proofs.Geometry.{ends-is, is-ends}
 
 end-reads : (p : Point) (w : Wire) → Reads (EndAt p w) (same p (tip low w) || same p (tip high w))
 end-reads p w = reads-as (into, λ e. out (e .0) (e .1)) (or-reads (same-reads p (tip low w)) (same-reads p (tip high w)))
@@ -44,7 +44,7 @@ held-reads ws ps d p = reads-as (into, out) (or-reads (any-reads (λ w. and-read
 module _ {H : Bool → Point → Type 0} {h : Bool → Point → Bool} (r : (d : Bool) (p : Point) → Reads (H d p) (h d p)) where
   pub joins-reads : (a b : Wire) → Reads (Follows a b × (H (a .vertical) (tip high a) → ⊥)) (joins h a b)
   unfolding joins
-  joins-reads a b = reads-as (λ t. (record { dir = t .0; line = t .1 .0; place = t .1 .1 .0 }, t .1 .1 .1), λ t. (t .0 .dir, (t .0 .line, (t .0 .place, t .1))))
+  joins-reads a b = reads-as (λ t. (record { dir = t .0; line = t .1 .0; end = t .1 .1 .0 }, t .1 .1 .1), λ t. (t .0 .dir, (t .0 .line, (t .0 .end, t .1))))
       (and-reads (beq-reads (a .vertical) (b .vertical)) (and-reads (eqb-reads (a .line) (b .line)) (and-reads (eqb-reads (a .end) (b .start)) (not-reads (r (a .vertical) (tip high a))))))
 
   -- wires that go on in line and do not join are held apart

@@ -13,8 +13,8 @@ use Rattle.symbol.specs.declared.Point.{Point}
 use Rattle.sheet.specs.declared.Wire.{Wire}
 use Rattle.sheet.specs.declared.Joint.{Joint}
 use Rattle.sheet.specs.Points.{same, Rise}
-use Rattle.sheet.specs.Lines.{ends}
-use Rattle.sheet.specs.Joints.{place, bump, jointsOf, number, total, countAt, Rising}
+use Rattle.sheet.specs.Geometry.{ends}
+use Rattle.sheet.specs.Joints.{jointPoint, bump, jointsOf, number, total, countAt, Rising}
 use Rattle.sheet.specs.Rules.{Rule6}
 use Rattle.sheet.proofs.Points.{same-reads, rise-asym, rise-self}
 use Rattle.sheet.proofs.Numbers.{swap-cond}
@@ -24,18 +24,18 @@ pub use Rattle.sheet.proofs.Numbers.{number-in, in-number, number-appen
 -- ---- rows and counts
 
 -- a row's count is the count at its point
-pub count-in : {js : List Joint} → Rising js → (j : Joint) → j ∈ js → countAt (place j) js ≡ j .count
+pub count-in : {js : List Joint} → Rising js → (j : Joint) → j ∈ js → countAt (jointPoint j) js ≡ j .count
 unfolding countAt
 count-in (more {x = i} {xs = js} h r) j (∈-head e) =
-    choose (same-reads (place j) (place i)) (λ n. n ≡ j .count) (λ t. ap (λ (k : Joint). k .count) (sym e)) (λ n. absurd (n (ap place e)))
+    choose (same-reads (jointPoint j) (jointPoint i)) (λ n. n ≡ j .count) (λ t. ap (λ (k : Joint). k .count) (sym e)) (λ n. absurd (n (ap jointPoint e)))
 count-in (more {x = i} {xs = js} h r) j (∈-tail m) = let ih = count-in r j m in
-    choose (same-reads (place j) (place i)) (λ n. n ≡ j .count) (λ t. absurd (rise-self (subst (Rise (place i)) t (h j m)))) (λ n. ih)
+    choose (same-reads (jointPoint j) (jointPoint i)) (λ n. n ≡ j .count) (λ t. absurd (rise-self (subst (Rise (jointPoint i)) t (h j m)))) (λ n. ih)
 
 -- where something is counted there is a row
-pub in-count : (p : Point) (js : List Joint) → 0 < countAt p js → (j : Joint) × j ∈ js × (place j ≡ p)
+pub in-count : (p : Point) (js : List Joint) → 0 < countAt p js → (j : Joint) × j ∈ js × (jointPoint j ≡ p)
 unfolding countAt
 in-count p [] l = absurd (omega arith)
-in-count p (i ∷ js) l = choose (same-reads p (place i)) (λ n. 0 < n → (j : Joint) × j ∈ i ∷ js × (place j ≡ p))
+in-count p (i ∷ js) l = choose (same-reads p (jointPoint i)) (λ n. 0 < n → (j : Joint) × j ∈ i ∷ js × (jointPoint j ≡ p))
     (λ t k. (i, ∈-head refl, sym t))
     (λ n k. let r = in-count p js k in (r .0, ∈-tail (r .1), r .2)) l
 
@@ -46,9 +46,9 @@ joints-ext {is} {js} r s c d e = rows-ext (λ i j. rise-asym) r s (into r c s e)
     into : {is js : List Joint} → Rising is → Counted is → Rising js → ((p : Point) → countAt p is ≡ countAt p js) → (z : Joint) → z ∈ is → z ∈ js
     into {is} {js} r c s e z m =
         let here = count-in r z m in
-        let k = in-count (place z) js (omega (arith, e (place z), c z m)) in
-        let there : countAt (place z) js ≡ k .0 .count = ap (λ q. countAt q js) (sym (k .2)) ∙ count-in s (k .0) (k .1) in
-        let count : k .0 .count ≡ z .count = sym there ∙ sym (e (place z)) ∙ here in
+        let k = in-count (jointPoint z) js (omega (arith, e (jointPoint z), c z m)) in
+        let there : countAt (jointPoint z) js ≡ k .0 .count = ap (λ q. countAt q js) (sym (k .2)) ∙ count-in s (k .0) (k .1) in
+        let count : k .0 .count ≡ z .count = sym there ∙ sym (e (jointPoint z)) ∙ here in
         subst (λ i. i ∈ js) (λ i. record { x = k .2 i .x; y = k .2 i .y; count = count i }) (k .1)
 
 -- ---- rules 6 and 7
@@ -70,10 +70,10 @@ count-joints q (p ∷ ps) = count-bump q p (joints-rising ps) ∙ ap (plus q p) 
 
 pub joints-listed : (ps : List Point) → Rule6 (jointsOf ps) ps
 joints-listed ps = record {
-  once = rows-all (joints-rising ps) (λ i j m n r e. rise-self (subst (λ q. Rise q (place j)) e r));
+  once = rows-all (joints-rising ps) (λ i j m n r e. rise-self (subst (λ q. Rise q (jointPoint j)) e r));
   all = λ p m. in-count p (jointsOf ps) (omega (arith, count-joints p ps, in-number m));
-  only = λ j m. number-in (place j) ps (omega (arith, count-joints (place j) ps, count-in (joints-rising ps) j m, joints-counted ps j m));
-  right = λ j m. sym (count-in (joints-rising ps) j m) ∙ count-joints (place j) ps;
+  only = λ j m. number-in (jointPoint j) ps (omega (arith, count-joints (jointPoint j) ps, count-in (joints-rising ps) j m, joints-counted ps j m));
+  right = λ j m. sym (count-in (joints-rising ps) j m) ∙ count-joints (jointPoint j) ps;
 }
 
 -- rows that list the points and rise are the joint rows

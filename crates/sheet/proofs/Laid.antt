@@ -8,10 +8,10 @@ use Rattle.lists.specs.Lists.{_∈_, insert, Rows}
 use Rattle.lists.proofs.Lists.{keep-in, in-keep, insert-in, insert-new}
 use Rattle.symbol.specs.declared.Point.{Point}
 use Rattle.sheet.specs.declared.Wire.{Wire}
-use Rattle.sheet.specs.Lines.{at, tips, marks, EndAt, first, Ends, Inside, Meets, Side, Before}
+use Rattle.sheet.specs.Geometry.{at, tips, marks, EndAt, first, Ends, Inside, Meets, Side, Before}
 use Rattle.sheet.specs.Run.{standing, lay, layWire}
 use Rattle.sheet.specs.Wiring.{AllFit}
-use Rattle.sheet.proofs.Lines.{On, on-reads, same-dir, tips-in, HasEnd, marks-in, in-marks}
+use Rattle.sheet.proofs.Geometry.{On, on-reads, same-dir, tips-in, HasEnd, marks-in, in-marks}
 use Rattle.sheet.proofs.Before.{insert-order}
 use Rattle.sheet.proofs.Pieces.{piece-end, Within, Piece}
 use Rattle.sheet.proofs.Split.{all-from, all-clean, all-span, all-order}
@@ -86,7 +86,7 @@ module _ (E : Draws) where
   run-end {s} {q} e = go (reach E .tip s)
     where
       onto : {w : Wire} → Within (runOf E) w → at s (runOf E) ≡ at s w → Ends s q w
-      onto k f = let a = same-dir (k .dir) q in record { line = omega (arith, k .line, e .line); place = omega (arith, e .place) }
+      onto k f = let a = same-dir (k .dir) q in record { line = omega (arith, k .line, e .line); end = omega (arith, e .end) }
 
       go : Reached (E .new) (E .wires) (runOf E) s → Ends s q (E .new) ⊎ ((w : Wire) × w ∈ E .wires × Meets (E .new) w × Ends s q w)
       go (inl f) = inl (onto (reach E .drawn) f)

@@ -7,7 +7,7 @@ use Rattle.lists.proofs.Tests.{not-turned}
 use Rattle.sheet.specs.declared.Wire.{Wire}
 use Rattle.sheet.specs.Run.{layWire}
 use Rattle.sheet.specs.LiesOn.{LiesOn}
-use Rattle.sheet.proofs.Lines.{ends-at}
+use Rattle.sheet.proofs.Geometry.{ends-at}
 use Rattle.sheet.proofs.Pieces.{within-inside, Within, Piece}
 use Rattle.sheet.proofs.Rest.{runOf, restOf, reach, rest-clean, Draws}
 use Rattle.sheet.proofs.Laid.{laidOf, cutsOf, laid-in, run-span}

@@ -9,9 +9,9 @@ use Rattle.lists.proofs.Tests.{decide, leb-reads}
 use Rattle.lists.proofs.Lists.{insert-old}
 use Rattle.symbol.specs.declared.Point.{Point}
 use Rattle.sheet.specs.declared.Wire.{Wire}
-use Rattle.sheet.specs.Lines.{along, across, marks, first, Inside, Meets, low, high}
+use Rattle.sheet.specs.Geometry.{along, across, marks, first, Inside, Meets, low, high}
 use Rattle.sheet.specs.Run.{lay, layWire}
-use Rattle.sheet.proofs.Lines.{On, same-dir, end-on, inside-end, HasEnd, marks-in, in-marks}
+use Rattle.sheet.proofs.Geometry.{On, same-dir, end-on, inside-end, HasEnd, marks-in, in-marks}
 use Rattle.sheet.proofs.Pieces.{within-inside, piece-uncut, Within, Piece}
 use Rattle.sheet.proofs.Split.{all-untouched}
 use Rattle.sheet.proofs.Reach.{Reached}

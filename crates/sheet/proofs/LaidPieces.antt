@@ -7,7 +7,7 @@ use Rattle.lists.proofs.Lists.{insertAll, insert-in, insert-new, insert-all-in,
 use Rattle.lists.proofs.Order.{rows-one}
 use Rattle.symbol.specs.declared.Point.{Point}
 use Rattle.sheet.specs.declared.Wire.{Wire}
-use Rattle.sheet.specs.Lines.{first, Before}
+use Rattle.sheet.specs.Geometry.{first, Before}
 use Rattle.sheet.specs.Split.{splitAll}
 use Rattle.sheet.specs.Run.{run, rest, standing, lay, layWire}
 use Rattle.sheet.specs.Wiring.{AllFit}

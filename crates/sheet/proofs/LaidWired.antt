@@ -9,10 +9,10 @@ use Rattle.lists.proofs.Tests.{decide, not-not, same-or-turned}
 use Rattle.lists.proofs.Lists.{insert-new, insert-old}
 use Rattle.symbol.specs.declared.Point.{Point}
 use Rattle.sheet.specs.declared.Wire.{Wire}
-use Rattle.sheet.specs.Lines.{tip, tips, EndAt, first, Ends, Inside, Meets, Follows, Side, low, high}
+use Rattle.sheet.specs.Geometry.{tip, tips, EndAt, first, Ends, Inside, Meets, Follows, Side, low, high}
 use Rattle.sheet.specs.Run.{lay, layWire}
 use Rattle.sheet.specs.Wiring.{HeldApart, Ended, Wired}
-use Rattle.sheet.proofs.Lines.{On, on-reads, meets-reads, same-dir, ends-at, end-on, on-cases, tips-in, HasEnd, marks-in, in-marks}
+use Rattle.sheet.proofs.Geometry.{On, on-reads, meets-reads, same-dir, ends-at, end-on, on-cases, tips-in, HasEnd, marks-in, in-marks}
 use Rattle.sheet.proofs.Before.{no-share}
 use Rattle.sheet.proofs.Wiring.{follows-end, ended-as, held-at}
 use Rattle.sheet.proofs.Pieces.{within-on, piece-end, Piece}
@@ -95,7 +95,7 @@ module _ (E : Draws) where
     -- along it: both are pieces of the run, which was cut there at a standing joint
     held-along : {a b : Wire} → Piece (cutsOf E) (runOf E) a → Piece (cutsOf E) (runOf E) b → Ends high q a → Ends low q b → Holds (a .vertical) q
     held-along {a} {b} pa pb x y = ⊎-elim
-        (λ (e : Ends high q (runOf E)). let k = same-dir (pb .within .dir) q in absurd (omega (arith, k, e .place, y .place, pb .within .to, pb .fits (run-fits E) .long)))
+        (λ (e : Ends high q (runOf E)). let k = same-dir (pb .within .dir) q in absurd (omega (arith, k, e .end, y .end, pb .within .to, pb .fits (run-fits E) .long)))
         (λ (j : q ∈ cutsOf E × Inside q (runOf E)). joint (j .1) (marks-in (restOf E) (cuts-in E (j .0) .0)))
         (piece-end pa x)
       where

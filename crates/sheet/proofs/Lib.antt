@@ -1,6 +1,6 @@
 -- Wires: geometry and row order.
 pub mod Points
-pub mod Lines
+pub mod Geometry
 pub mod Before
 pub mod Wiring
 -- Splitting.

@@ -11,10 +11,10 @@ use Rattle.lists.proofs.Lists.{keep-old}
 use Rattle.lists.proofs.Order.{rows-keep, rows-all, rows-chain}
 use Rattle.symbol.specs.declared.Point.{Point}
 use Rattle.sheet.specs.declared.Wire.{Wire}
-use Rattle.sheet.specs.Lines.{tip, marks, EndAt, Inside, Follows, high, Before}
+use Rattle.sheet.specs.Geometry.{tip, marks, EndAt, Inside, Follows, high, Before}
 use Rattle.sheet.specs.Merge.{heldApart, joins, join, glue, mergeBy, merge}
 use Rattle.sheet.specs.Wiring.{HeldApart, AllFit, Ended, Clean, Wired}
-use Rattle.sheet.proofs.Lines.{same-dir, ends-at, HasEnd, marks-in, in-marks}
+use Rattle.sheet.proofs.Geometry.{same-dir, ends-at, HasEnd, marks-in, in-marks}
 use Rattle.sheet.proofs.Before.{ends-apart, follows-next}
 use Rattle.sheet.proofs.Wiring.{ended-as}
 use Rattle.sheet.proofs.Held.{held-reads, joins-reads, not-joined, joins-follow, joins-join, glue-joined, glue-apart, Unjoined, merge-unjoined, merge-idle}
@@ -48,7 +48,7 @@ module _ {ws : List Wire} {ps : List Point} (c : Clean ws ps) where
   -- an end of a merged wire was one of a wire of its direction
   old-end : (v : Wire) → v ∈ merge ws ps → (p : Point) → EndAt p v → Ended ws (v .vertical) p
   old-end v m p e = let k = merged-kin merging (e .0) v m in let t = same-dir (k .dir) p in
-      record { wire = k .wire; among = k .among; dir = sym (k .dir); here = (e .0, record { line = omega (arith, e .1 .line, k .line); place = omega (arith, e .1 .place, k .place) }) }
+      record { wire = k .wire; among = k .among; dir = sym (k .dir); here = (e .0, record { line = omega (arith, e .1 .line, k .line); end = omega (arith, e .1 .end, k .end) }) }
 
   clear : (p : Point) → p ∈ marks (merge ws ps) ps → (w : Wire) → w ∈ merge ws ps → Inside p w → ⊥
   clear p j w m i = go (marks-in (merge ws ps) j) (merged-inner merging w m p i)

@@ -11,7 +11,7 @@ use Rattle.lists.proofs.Tests.{test, stable, reads-as, not-reads, same-test, eq
 use Rattle.lists.proofs.Lists.{keep-old}
 use Rattle.symbol.specs.declared.Point.{Point}
 use Rattle.sheet.specs.declared.Wire.{Wire}
-use Rattle.sheet.specs.Lines.{tip, marks, Follows, low, high}
+use Rattle.sheet.specs.Geometry.{tip, marks, Follows, low, high}
 use Rattle.sheet.specs.Merge.{heldApart, joins, join, glue, mergeBy, merge}
 use Rattle.sheet.specs.Joints.{jointsOf, number, countAt}
 use Rattle.sheet.specs.Wiring.{Clean, Wired}
@@ -37,7 +37,7 @@ module _ (h k : Bool → Point → Bool) where
   unfolding mergeBy
   merge-cong [] f = refl
   merge-cong (w ∷ ws) f = ap (glue h w) (merge-cong ws (λ x y m n. f x y (∈-tail m) (∈-tail n))) ∙ same-glue w (mergeBy k ws) (λ u m e.
-      let c = merged-kin (merged (λ d p. test (k d p)) ws) low u m in f w (c .wire) (∈-head refl) (∈-tail (c .among)) (record { dir = e .dir ∙ c .dir; line = e .line ∙ c .line; place = e .place ∙ c .place }))
+      let c = merged-kin (merged (λ d p. test (k d p)) ws) low u m in f w (c .wire) (∈-head refl) (∈-tail (c .among)) (record { dir = e .dir ∙ c .dir; line = e .line ∙ c .line; end = e .end ∙ c .end }))
 
 -- wires that go on in line become one just where the count is 2
 pub merge-by-count : {ws : List Wire} {ps : List Point} → Clean ws ps → mergeBy (λ d p. not (eqb (countAt p (jointsOf (marks ws ps))) 2)) ws ≡ merge ws ps

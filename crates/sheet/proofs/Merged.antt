@@ -11,7 +11,7 @@ use Rattle.lists.proofs.Lists.{in-cons}
 use Rattle.lists.proofs.Order.{rows-head, rows-tail}
 use Rattle.symbol.specs.declared.Point.{Point}
 use Rattle.sheet.specs.declared.Wire.{Wire}
-use Rattle.sheet.specs.Lines.{at, tip, Follows, Side, low, high, Before}
+use Rattle.sheet.specs.Geometry.{at, tip, Follows, Side, low, high, Before}
 use Rattle.sheet.specs.Merge.{join, glue, mergeBy}
 use Rattle.sheet.specs.Wiring.{AllFit, Fits}
 use Rattle.sheet.proofs.Before.{before-like}
@@ -46,17 +46,17 @@ pub record Kin (s : Side) (ws : List Wire) (u : Wire) : Type 0 where
   pub among : wire ∈ ws
   pub dir : u .vertical ≡ wire .vertical
   pub line : u .line ≡ wire .line
-  pub place : at s u ≡ at s wire
+  pub end : at s u ≡ at s wire
 
 first-kin : {s : Side} {w : Wire} {ws : List Wire} → Kin s (w ∷ ws) w
-first-kin {w} = record { wire = w; among = ∈-head refl; dir = refl; line = refl; place = refl }
+first-kin {w} = record { wire = w; among = ∈-head refl; dir = refl; line = refl; end = refl }
 
 later-kin : {s : Side} {v w : Wire} {ws : List Wire} → Kin s ws v → Kin s (w ∷ ws) v
-later-kin k = record { wire = k .wire; among = ∈-tail (k .among); dir = k .dir; line = k .line; place = k .place }
+later-kin k = record { wire = k .wire; among = ∈-tail (k .among); dir = k .dir; line = k .line; end = k .end }
 
 join-kin : (s : Side) {w b : Wire} {ws : List Wire} → Follows w b → Kin s ws b → Kin s (w ∷ ws) (join w b)
-join-kin low {w} e k = record { wire = w; among = ∈-head refl; dir = refl; line = refl; place = refl }
-join-kin high e k = record { wire = k .wire; among = ∈-tail (k .among); dir = e .dir ∙ k .dir; line = e .line ∙ k .line; place = k .place }
+join-kin low {w} e k = record { wire = w; among = ∈-head refl; dir = refl; line = refl; end = refl }
+join-kin high e k = record { wire = k .wire; among = ∈-tail (k .among); dir = e .dir ∙ k .dir; line = e .line ∙ k .line; end = k .end }
 
 module _ {H : Keeps} where
   pub merged-kin : {ws ms : List Wire} → Merged H ws ms → (s : Side) (u : Wire) → u ∈ ms → Kin s ws u
@@ -71,11 +71,11 @@ module _ {H : Keeps} where
       let later = merged-fits j (λ z k. fits z (∈-tail k)) in
       let a = fits w (∈-head refl) in
       let c = later b (∈-head refl) in
-      λ u m. in-cons Fits (record { line = a .line; long = omega (arith, a .long, c .long, e .place); end = c .end }) (λ z k. later z (∈-tail k)) m
+      λ u m. in-cons Fits (record { line = a .line; long = omega (arith, a .long, c .long, e .end); end = c .end }) (λ z k. later z (∈-tail k)) m
 
   pub merged-order : {ws ms : List Wire} → Merged H ws ms → Rows Before ws → Rows Before ms
   merged-order nothing none = none
-  merged-order (alone {w} j) (more h s) = more (λ u m. let k = merged-kin j low u m in before-like {a = w} {a′ = w} refl refl (omega arith) (k .dir) (k .line) (omega (arith, k .place)) (h (k .wire) (k .among))) (merged-order j s)
+  merged-order (alone {w} j) (more h s) = more (λ u m. let k = merged-kin j low u m in before-like {a = w} {a′ = w} refl refl (omega arith) (k .dir) (k .line) (omega (arith, k .end)) (h (k .wire) (k .among))) (merged-order j s)
   merged-order (onto {w} {b} e f j) (more h s) = let o = merged-order j s in more (λ u m. before-like {a′ = join w b} (e .dir) (e .line) (omega arith) refl refl (omega arith) (rows-head o u m)) (rows-tail o)
 
   pub merged-no-longer : {ws ms : List Wire} → Merged H ws ms → length ms ≤ length ws

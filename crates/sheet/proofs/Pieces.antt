@@ -11,10 +11,10 @@ use Rattle.lists.proofs.Order.{rows-one}
 use Rattle.symbol.specs.declared.Point.{Point}
 use Rattle.sheet.specs.declared.Wire.{Wire}
 use Rattle.sheet.specs.Points.{same}
-use Rattle.sheet.specs.Lines.{along, across, at, Ends, Inside, Side, low, high, Before, same-line}
+use Rattle.sheet.specs.Geometry.{along, across, at, Ends, Inside, Side, low, high, Before, same-line}
 use Rattle.sheet.specs.Split.{left, right, splitOne}
 use Rattle.sheet.specs.Wiring.{Fits}
-use Rattle.sheet.proofs.Lines.{On, inside-reads, same-dir, point-is, wire-is}
+use Rattle.sheet.proofs.Geometry.{On, inside-reads, same-dir, point-is, wire-is}
 use Rattle.sheet.proofs.Before.{before-like, Apart}
 
 -- v lies within w: same direction and line, and no longer
@@ -57,8 +57,8 @@ pub within-on : {p : Point} {w v : Wire} → Within w v → On p v → On p w
 within-on {p} k i = let s = same-dir (k .dir) p in record { line = omega arith; from = omega arith; to = omega arith }
 
 pub within-end : {s : Side} {q : Point} {w v : Wire} → Within w v → On q v → Ends s q w → Ends s q v
-within-end {s = low} {q} k o e = let t = same-dir (k .dir) q in record { line = o .line; place = omega (arith, e .place) }
-within-end {s = high} {q} k o e = let t = same-dir (k .dir) q in record { line = o .line; place = omega (arith, e .place) }
+within-end {s = low} {q} k o e = let t = same-dir (k .dir) q in record { line = o .line; end = omega (arith, e .end) }
+within-end {s = high} {q} k o e = let t = same-dir (k .dir) q in record { line = o .line; end = omega (arith, e .end) }
 
 -- where a piece has an end the wire has it, or a point of the list stands there
 pub piece-end : {qs : List Point} {w v : Wire} {s : Side} {q : Point} → Piece qs w v → Ends s q v → Ends s q w ⊎ (q ∈ qs × Inside q w)
@@ -66,8 +66,8 @@ piece-end {qs} {w} {v} {s} {q} p e =
     let t = same-dir (p .within .dir) q in
     let l : w .line ≡ across (w .vertical) q = omega (arith, e .line, p .within .line) in
     ⊎-elim
-    (λ (f : at s v ≡ at s w). inl (record { line = l; place = omega (arith, e .place) }))
-    (λ (c : Cut qs w (at s v)). let same : q ≡ c .0 = point-is (w .vertical) q (c .0) (sym l ∙ c .2 .line) (omega (arith, e .place, c .3)) in inr (∈-cast same (c .1), subst (λ x. Inside x w) (sym same) (c .2)))
+    (λ (f : at s v ≡ at s w). inl (record { line = l; end = omega (arith, e .end) }))
+    (λ (c : Cut qs w (at s v)). let same : q ≡ c .0 = point-is (w .vertical) q (c .0) (sym l ∙ c .2 .line) (omega (arith, e .end, c .3)) in inr (∈-cast same (c .1), subst (λ x. Inside x w) (sym same) (c .2)))
     (p .tip s)
 
 -- a wire with no point of the list inside is left whole

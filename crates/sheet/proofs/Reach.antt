@@ -9,10 +9,10 @@ use Rattle.lists.proofs.Tests.{decide, choose, leb-reads}
 use Rattle.lists.proofs.Lists.{in-cons}
 use Rattle.symbol.specs.declared.Point.{Point}
 use Rattle.sheet.specs.declared.Wire.{Wire}
-use Rattle.sheet.specs.Lines.{at, Meets, Side, low, high}
+use Rattle.sheet.specs.Geometry.{at, Meets, Side, low, high}
 use Rattle.sheet.specs.Run.{stretch, run}
 use Rattle.sheet.specs.Wiring.{Fits}
-use Rattle.sheet.proofs.Lines.{other, On, meets-reads, same-dir}
+use Rattle.sheet.proofs.Geometry.{other, On, meets-reads, same-dir}
 use Rattle.sheet.proofs.Before.{before-line, Apart}
 use Rattle.sheet.proofs.Pieces.{whole, Within}
 

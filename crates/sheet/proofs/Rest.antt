@@ -11,10 +11,10 @@ use Rattle.lists.proofs.Lists.{keep-in, in-keep}
 use Rattle.lists.proofs.Order.{rows-keep, rows-two}
 use Rattle.symbol.specs.declared.Point.{Point}
 use Rattle.sheet.specs.declared.Wire.{Wire}
-use Rattle.sheet.specs.Lines.{at, tips, EndAt, meets, Inside, Meets, Side, low, high, Before, next-line, same-line}
+use Rattle.sheet.specs.Geometry.{at, tips, EndAt, meets, Inside, Meets, Side, low, high, Before, next-line, same-line}
 use Rattle.sheet.specs.Run.{kept, run, rest}
 use Rattle.sheet.specs.Wiring.{AllFit, Ended, Fits, Wired}
-use Rattle.sheet.proofs.Lines.{other, meets-reads, in-tips}
+use Rattle.sheet.proofs.Geometry.{other, meets-reads, in-tips}
 use Rattle.sheet.proofs.Before.{Apart, turned-apart}
 use Rattle.sheet.proofs.Pieces.{whole, apart-within, Within, Piece}
 use Rattle.sheet.proofs.Split.{all-from, all-clean, all-order, end-stays}

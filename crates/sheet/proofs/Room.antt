@@ -13,7 +13,7 @@ use Rattle.lists.proofs.Appends.{length-keep, length-insert}
 use Rattle.symbol.specs.declared.Point.{Point}
 use Rattle.sheet.specs.declared.Wire.{Wire}
 use Rattle.sheet.specs.declared.Component.{Component}
-use Rattle.sheet.specs.Lines.{tips, meets, first}
+use Rattle.sheet.specs.Geometry.{tips, meets, first}
 use Rattle.sheet.specs.Split.{splitAll}
 use Rattle.sheet.specs.Merge.{merge}
 use Rattle.sheet.specs.Run.{kept, run, rest, standing, lay, layWire}

@@ -9,7 +9,7 @@ use Rattle.lists.proofs.Adjacent.{Adjacent}
 use Rattle.lists.proofs.Tests.{decide, ltb-reads, clash}
 use Rattle.lists.proofs.Order.{rows-all, rows-both, rows-chain, chain-rows}
 use Rattle.sheet.specs.declared.Wire.{Wire}
-use Rattle.sheet.specs.Lines.{Before, turned, next-line, same-line}
+use Rattle.sheet.specs.Geometry.{Before, turned, next-line, same-line}
 use Rattle.sheet.specs.Wiring.{AllFit}
 use Rattle.sheet.specs.Rules.{Share, Upward, upright, up, along, Rule2}
 

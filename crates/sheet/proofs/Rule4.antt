@@ -12,12 +12,12 @@ use Rattle.lists.proofs.Order.{rows-keep, rows-all}
 use Rattle.symbol.specs.declared.Point.{Point}
 use Rattle.sheet.specs.declared.Wire.{Wire}
 use Rattle.sheet.specs.Points.{same}
-use Rattle.sheet.specs.Lines.{tip, tips, ends, marks, Ends, Follows, Side, low, high}
+use Rattle.sheet.specs.Geometry.{tip, tips, ends, marks, Ends, Follows, Side, low, high}
 use Rattle.sheet.specs.Joints.{number}
 use Rattle.sheet.specs.Wiring.{HeldApart, AllFit, Ended}
 use Rattle.sheet.specs.Rules.{endsAt, Rule2, Rule4, Share}
 use Rattle.sheet.proofs.Points.{same-reads}
-use Rattle.sheet.proofs.Lines.{same-dir, ends-at, ends-is, is-ends, ends-in, in-ends}
+use Rattle.sheet.proofs.Geometry.{same-dir, ends-at, ends-is, is-ends, ends-in, in-ends}
 use Rattle.sheet.proofs.Wiring.{ends-follow, follows-end}
 use Rattle.sheet.proofs.Held.{held-reads}
 use Rattle.sheet.proofs.Numbers.{number-in, in-number, number-append, number-parts}
@@ -58,8 +58,8 @@ number-ends p (w ∷ ws) = step (same p (tip low w)) (same p (tip high w)) (numb
 
 -- two wires of one direction with one end of a side share a length
 share : (s : Side) {p : Point} {a b : Wire} → a .start < a .end → b .start < b .end → a .vertical ≡ b .vertical → Ends s p a → Ends s p b → Share a b
-share low {p} k l d e f = let t = same-dir d p in record { dir = d; line = omega (arith, e .line, f .line); from = omega (arith, e .place, f .place); to = omega (arith, e .place, f .place) }
-share high {p} k l d e f = let t = same-dir d p in record { dir = d; line = omega (arith, e .line, f .line); from = omega (arith, e .place, f .place); to = omega (arith, e .place, f .place) }
+share low {p} k l d e f = let t = same-dir d p in record { dir = d; line = omega (arith, e .line, f .line); from = omega (arith, e .end, f .end); to = omega (arith, e .end, f .end) }
+share high {p} k l d e f = let t = same-dir d p in record { dir = d; line = omega (arith, e .line, f .line); from = omega (arith, e .end, f .end); to = omega (arith, e .end, f .end) }
 
 beq-not : (a b : Bool) → not (Bool·beq a b) ≡ Bool·beq a (not b)
 beq-not true true = refl

@@ -7,11 +7,11 @@ use Rattle.lists.specs.Lists.{_∈_}
 use Rattle.lists.proofs.Tests.{decide, choose, eqb-reads}
 use Rattle.symbol.specs.declared.Point.{Point}
 use Rattle.sheet.specs.declared.Wire.{Wire}
-use Rattle.sheet.specs.Lines.{tip}
+use Rattle.sheet.specs.Geometry.{tip}
 use Rattle.sheet.specs.Run.{layWire, drawWire}
 use Rattle.sheet.specs.Wiring.{Fits, Wired}
 use Rattle.sheet.specs.LiesOn.{LiesOn}
-use Rattle.sheet.proofs.Lines.{ends-at, in-marks}
+use Rattle.sheet.proofs.Geometry.{ends-at, in-marks}
 use Rattle.sheet.proofs.Wiring.{Drawable}
 use Rattle.sheet.proofs.Rest.{Draws}
 use Rattle.sheet.proofs.LaidWired.{result-wired}

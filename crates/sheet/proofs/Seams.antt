@@ -10,10 +10,10 @@ use Rattle.lists.proofs.Tests.{compare}
 use Rattle.lists.proofs.Lists.{in-cons}
 use Rattle.symbol.specs.declared.Point.{Point}
 use Rattle.sheet.specs.declared.Wire.{Wire}
-use Rattle.sheet.specs.Lines.{along, tip, EndAt, Ends, Inside, Follows, Side, low, high}
+use Rattle.sheet.specs.Geometry.{along, tip, EndAt, Ends, Inside, Follows, Side, low, high}
 use Rattle.sheet.specs.Merge.{join}
 use Rattle.sheet.specs.Wiring.{Ended}
-use Rattle.sheet.proofs.Lines.{same-dir, ends-is}
+use Rattle.sheet.proofs.Geometry.{same-dir, ends-is}
 use Rattle.sheet.proofs.Merged.{Keeps, merged-kin, Merged, nothing, alone, onto}
 
 -- ---- inner points
@@ -51,7 +51,7 @@ module _ {H : Keeps} where
     next = k .wire;
     among = ∈-head refl;
     among′ = ∈-tail (k .among);
-    meet = record { dir = e .dir ∙ k .dir; line = e .line ∙ k .line; place = e .place ∙ k .place };
+    meet = record { dir = e .dir ∙ k .dir; line = e .line ∙ k .line; end = e .end ∙ k .end };
     dir = refl;
     here = g;
     free = λ x. f (subst (H (w .vertical)) (ends-is g) x);
@@ -67,9 +67,9 @@ module _ {H : Keeps} where
       (λ i. ⊎-elim
       (λ (l : along (w .vertical) p < w .end). inl (record { wire = w; among = ∈-head refl; dir = refl; here = record { line = i .line; from = i .from; to = l } }))
       (⊎-elim
-      (λ (l : along (w .vertical) p ≡ w .end). inr (seam e f j (record { line = i .line; place = sym l })))
+      (λ (l : along (w .vertical) p ≡ w .end). inr (seam e f j (record { line = i .line; end = sym l })))
       (λ (l : w .end < along (w .vertical) p). let k = same-dir (e .dir) p in
-      subst (λ d. Covered (w ∷ ws) d p ⊎ Seam H (w ∷ ws) d p) (sym (e .dir)) (later-inner (merged-inner j b (∈-head refl) p (record { line = omega (arith, i .line, e .line); from = omega (arith, e .place); to = omega (arith, i .to) })))))
+      subst (λ d. Covered (w ∷ ws) d p ⊎ Seam H (w ∷ ws) d p) (sym (e .dir)) (later-inner (merged-inner j b (∈-head refl) p (record { line = omega (arith, i .line, e .line); from = omega (arith, e .end); to = omega (arith, i .to) })))))
       (compare (along (w .vertical) p) (w .end)))
       (λ z k i. later-inner (merged-inner j z (∈-tail k) p i)) m
 
@@ -82,7 +82,7 @@ module _ {H : Keeps} where
   module _ {w b : Wire} {ws bs : List Wire} (e : Follows w b) (f : H (w .vertical) (tip high w) → ⊥) (j : Merged H ws (b ∷ bs)) where
     -- the ends of w, and of b and the rows behind it, but for the seam
     stay-joined : (p : Point) (s : Side) → Ends s p w → Ended (join w b ∷ bs) (w .vertical) p ⊎ Seam H (w ∷ ws) (w .vertical) p
-    stay-joined p low g = inl (record { wire = join w b; among = ∈-head refl; dir = refl; here = (low, record { line = g .line; place = g .place }) })
+    stay-joined p low g = inl (record { wire = join w b; among = ∈-head refl; dir = refl; here = (low, record { line = g .line; end = g .end }) })
     stay-joined p high g = inr (seam e f j g)
 
     stay-behind : {d : Bool} {p : Point} → Ended (b ∷ bs) d p → Ended (join w b ∷ bs) d p ⊎ Seam H (w ∷ ws) d p
@@ -92,8 +92,8 @@ module _ {H : Keeps} where
         (t .among) (t .dir) (t .here)
       where
         here : b .vertical ≡ d → (s : Side) → Ends s p b → Ended (join w b ∷ bs) d p ⊎ Seam H (w ∷ ws) d p
-        here x low g = let k = same-dir (e .dir) p in inr (subst (λ c. Seam H (w ∷ ws) c p) (e .dir ∙ x) (seam e f j (record { line = omega (arith, e .line, g .line); place = omega (arith, e .place, g .place) })))
-        here x high g = let k = same-dir (e .dir) p in inl (record { wire = join w b; among = ∈-head refl; dir = e .dir ∙ x; here = (high, record { line = omega (arith, e .line, g .line); place = omega (arith, g .place) }) })
+        here x low g = let k = same-dir (e .dir) p in inr (subst (λ c. Seam H (w ∷ ws) c p) (e .dir ∙ x) (seam e f j (record { line = omega (arith, e .line, g .line); end = omega (arith, e .end, g .end) })))
+        here x high g = let k = same-dir (e .dir) p in inl (record { wire = join w b; among = ∈-head refl; dir = e .dir ∙ x; here = (high, record { line = omega (arith, e .line, g .line); end = omega (arith, g .end) }) })
 
   -- an end of a wire is an end of a merged one of its direction, or a seam
   pub merged-stay : {ws ms : List Wire} → Merged H ws ms → (w : Wire) → w ∈ ws → (p : Point) → EndAt p w → Ended ms (w .vertical) p ⊎ Seam H ws (w .vertical) p

@@ -11,10 +11,10 @@ use Rattle.lists.proofs.Lists.{gather-in, in-gather}
 use Rattle.lists.proofs.Appends.{gather-append}
 use Rattle.symbol.specs.declared.Point.{Point}
 use Rattle.sheet.specs.declared.Wire.{Wire}
-use Rattle.sheet.specs.Lines.{EndAt, inside, Inside, Before}
+use Rattle.sheet.specs.Geometry.{EndAt, inside, Inside, Before}
 use Rattle.sheet.specs.Split.{left, right, splitOne, splitAt, splitAll}
 use Rattle.sheet.specs.Wiring.{Ended, Fits}
-use Rattle.sheet.proofs.Lines.{On, same-dir, end-on, on-cases}
+use Rattle.sheet.proofs.Geometry.{On, same-dir, end-on, on-cases}
 use Rattle.sheet.proofs.Pieces.{Cut, entire, within-trans, within-before, within-inside, within-end, one, one-none, Within, Piece}
 
 -- ---- one point and many wires

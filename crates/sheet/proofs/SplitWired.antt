@@ -5,10 +5,10 @@ use mathlib.Core.Logic.{⊎-elim, _⊎_, inl, inr}
 use Rattle.lists.specs.Lists.{_∈_}
 use Rattle.symbol.specs.declared.Point.{Point}
 use Rattle.sheet.specs.declared.Wire.{Wire}
-use Rattle.sheet.specs.Lines.{tip, marks, Ends, Inside, Follows, low, high}
+use Rattle.sheet.specs.Geometry.{tip, marks, Ends, Inside, Follows, low, high}
 use Rattle.sheet.specs.Split.{splitAll}
 use Rattle.sheet.specs.Wiring.{HeldApart, Wired}
-use Rattle.sheet.proofs.Lines.{ends-at, HasEnd, marks-in, in-marks}
+use Rattle.sheet.proofs.Geometry.{ends-at, HasEnd, marks-in, in-marks}
 use Rattle.sheet.proofs.Wiring.{follows-end, ended-as, held-at}
 use Rattle.sheet.proofs.Pieces.{within-inside, piece-end, Piece}
 use Rattle.sheet.proofs.Split.{all-from, all-clean, all-order, end-stays}

@@ -17,7 +17,7 @@ use Rattle.sheet.specs.declared.Component.{Component}
 use Rattle.sheet.specs.Boxes.{square, line}
 use Rattle.sheet.specs.Parts.{box}
 use Rattle.sheet.specs.Edits.{meetsWire, meetsPart}
-use Rattle.sheet.proofs.Lines.{On}
+use Rattle.sheet.proofs.Geometry.{On}
 
 -- "the square of half-width size about the pointer, edges counted": the point q is at most size from the pointer p in x and in y
 pub record Around (p : Point) (size : ℕ) (q : Point) : Type 0 where

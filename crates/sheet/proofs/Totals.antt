@@ -4,7 +4,7 @@ use mathlib.Core.Path.{_≡_}
 use native.Mathlib.Omega.{arith}
 use lib.ListN.{length, length-append}
 use Rattle.lists.proofs.Appends.{length-gather}
-use Rattle.sheet.specs.Lines.{ends}
+use Rattle.sheet.specs.Geometry.{ends}
 use Rattle.sheet.specs.Parts.{pads, padsOf}
 use Rattle.sheet.specs.Drawings.{marksOf, joints, tallyOf, Sheet}
 use Rattle.sheet.proofs.Wiring.{Roomy}

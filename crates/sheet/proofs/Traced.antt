@@ -8,10 +8,10 @@ use Rattle.lists.specs.Lists.{_∈_}
 use Rattle.lists.proofs.Tests.{decide, ltb-reads, compare}
 use Rattle.lists.proofs.Order.{rows-two}
 use Rattle.sheet.specs.declared.Wire.{Wire}
-use Rattle.sheet.specs.Lines.{tip, tips, Meets, Before, low, high}
+use Rattle.sheet.specs.Geometry.{tip, tips, Meets, Before, low, high}
 use Rattle.sheet.specs.Run.{rest}
 use Rattle.sheet.specs.LiesOn.{LiesOn}
-use Rattle.sheet.proofs.Lines.{meets-reads, same-dir, wire-is, ends-at}
+use Rattle.sheet.proofs.Geometry.{meets-reads, same-dir, wire-is, ends-at}
 use Rattle.sheet.proofs.Before.{before-line, wires-ext}
 use Rattle.sheet.proofs.Pieces.{Cut, Within, Piece}
 use Rattle.sheet.proofs.Split.{all-untouched}
@@ -59,7 +59,7 @@ module _ (E : Draws) (T : LiesOn (E .wires) (E .new)) where
           go c (inr (inr x)) =
               let e = ends-at high w in
               let d = same-dir (p .within .dir ∙ sym (k .dir)) (tip high w) in
-              absurd (laid-clean E n (seam E T m k (omega (arith, t .3, t .4)) (omega (arith, p .within .to))) (record { line = omega (arith, d, e .line, p .within .line, k .line); from = omega (arith, d, e .place, start, t .4); to = omega (arith, d, e .place) }))
+              absurd (laid-clean E n (seam E T m k (omega (arith, t .3, t .4)) (omega (arith, p .within .to))) (record { line = omega (arith, d, e .line, p .within .line, k .line); from = omega (arith, d, e .end, start, t .4); to = omega (arith, d, e .end) }))
 
   -- ---- the same wires
 

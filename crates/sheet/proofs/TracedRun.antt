@@ -11,10 +11,10 @@ use Rattle.lists.proofs.Tests.{decide, leb-reads, ltb-reads, same-or-turned, no
 use Rattle.lists.proofs.Order.{rows-two}
 use Rattle.symbol.specs.declared.Point.{Point}
 use Rattle.sheet.specs.declared.Wire.{Wire}
-use Rattle.sheet.specs.Lines.{tip, tips, marks, Inside, Meets, Follows, Before, low, high}
+use Rattle.sheet.specs.Geometry.{tip, tips, marks, Inside, Meets, Follows, Before, low, high}
 use Rattle.sheet.specs.Wiring.{Ended}
 use Rattle.sheet.specs.LiesOn.{LiesOn}
-use Rattle.sheet.proofs.Lines.{On, same-dir, ends-at, ends-is, end-on, tips-in, HasEnd, marks-in, in-marks}
+use Rattle.sheet.proofs.Geometry.{On, same-dir, ends-at, ends-is, end-on, tips-in, HasEnd, marks-in, in-marks}
 use Rattle.sheet.proofs.Before.{before-line}
 use Rattle.sheet.proofs.Pieces.{Cut, Within, piece-uncut}
 use Rattle.sheet.proofs.Reach.{Reached, on-meets}
@@ -80,7 +80,7 @@ module _ (E : Draws) (T : LiesOn (E .wires) (E .new)) where
           record {
             dir = d;
             line = e;
-            place = ⊎-elim
+            end = ⊎-elim
                 (λ (f : w ≡ next .0). absurd (omega (arith, ap (λ (v : Wire). v .end) f, next .4)))
                 (⊎-elim (λ (f : Before w (next .0)). omega (arith, before-line f d e, next .3)) (λ (f : Before (next .0) w). absurd (omega (arith, before-line f (sym d) (sym e), next .4))))
                 (rows-two (E .law .clean .order) m (next .1));
@@ -101,4 +101,4 @@ module _ (E : Draws) (T : LiesOn (E .wires) (E .new)) where
           ⊎-elim
           (λ (o : On q (E .new)). o)
           (λ (t : (r : Wire) × r ∈ E .wires × Inside q r). absurd (E .law .clean .clear q (in-marks (inl (w, m, (high, e)))) (t .0) (t .1) (t .2)))
-          (inside-run E (record { line = omega (arith, d, e .line, k .line); from = omega (arith, d, e .place, k .from); to = omega (arith, d, e .place) }))
+          (inside-run E (record { line = omega (arith, d, e .line, k .line); from = omega (arith, d, e .end, k .from); to = omega (arith, d, e .end) }))

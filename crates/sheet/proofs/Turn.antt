@@ -17,7 +17,7 @@ use Rattle.orientation.proofs.Turns.{right-stays, mirror-stays}
 use Rattle.symbol.specs.declared.Point.{Point}
 use Rattle.sheet.specs.declared.Component.{Component}
 use Rattle.sheet.specs.Points.{same, Rise}
-use Rattle.sheet.specs.Lines.{at}
+use Rattle.sheet.specs.Geometry.{at}
 use Rattle.sheet.specs.Boxes.{Shares}
 use Rattle.sheet.specs.Parts.{position, box, turnedRight, mirrored, PartFits}
 use Rattle.sheet.specs.Drawings.{Sheet}

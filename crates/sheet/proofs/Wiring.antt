@@ -14,9 +14,9 @@ use Rattle.sheet.specs.Points.{Rise}
 use Rattle.sheet.specs.Boxes.{Shares}
 use Rattle.sheet.specs.Parts.{position, box, padsOf, PartFits}
 use Rattle.sheet.specs.Drawings.{Sheet}
-use Rattle.sheet.specs.Lines.{tip, Ends, Follows, low, high}
+use Rattle.sheet.specs.Geometry.{tip, Ends, Follows, low, high}
 use Rattle.sheet.specs.Wiring.{HeldApart, Ended, Wired}
-use Rattle.sheet.proofs.Lines.{same-dir, ends-at, ends-is, HasEnd, marks-in, in-marks}
+use Rattle.sheet.proofs.Geometry.{same-dir, ends-at, ends-is, HasEnd, marks-in, in-marks}
 
 -- the wire may be drawn: coordinates in range, the start not greater than the end
 pub record Drawable (n : Wire) : Type 0 where
@@ -39,10 +39,10 @@ pub record Roomy (s : Sheet) : Type 0 where
 -- ---- wires in line
 
 pub ends-follow : {p : Point} {a b : Wire} → a .vertical ≡ b .vertical → Ends high p a → Ends low p b → Follows a b
-ends-follow {p} d e f = let t = same-dir d p in record { dir = d; line = omega (arith, e .line, f .line); place = omega (arith, e .place, f .place) }
+ends-follow {p} d e f = let t = same-dir d p in record { dir = d; line = omega (arith, e .line, f .line); end = omega (arith, e .end, f .end) }
 
 pub follows-end : {a b : Wire} → Follows a b → Ends low (tip high a) b
-follows-end {a} f = let e = ends-at high a in let t = same-dir (f .dir) (tip high a) in record { line = omega (arith, e .line, f .line); place = omega (arith, e .place, f .place) }
+follows-end {a} f = let e = ends-at high a in let t = same-dir (f .dir) (tip high a) in record { line = omega (arith, e .line, f .line); end = omega (arith, e .end, f .end) }
 
 -- the direction of an end by another name
 pub ended-as : {ws : List Wire} {d e : Bool} {p : Point} → Ended ws d p → d ≡ e → Ended ws e p

@@ -4,7 +4,7 @@ use Rattle.symbol.specs.declared.Point.{Point}
 use Rattle.symbol.specs.declared.Bounds.{Bounds}
 pub use Rattle.symbol.specs.Boxes.{Shares}
 use Rattle.sheet.specs.declared.Wire.{Wire}
-use Rattle.sheet.specs.Lines.{low, high, tip}
+use Rattle.sheet.specs.Geometry.{low, high, tip}
 
 -- the square, cut off at row number 0: over coordinates this loses no point (proofs/Square: square-in, square-meets)
 abbrev pub square : Point → ℕ → Bounds

@@ -14,7 +14,7 @@ use Rattle.sheet.specs.declared.Components.{Components}
 use Rattle.sheet.specs.declared.Joints.{Joints}
 use Rattle.sheet.specs.declared.Drawing.{Drawing}
 use Rattle.sheet.specs.declared.Tally.{Tally}
-use Rattle.sheet.specs.Lines.{marks}
+use Rattle.sheet.specs.Geometry.{marks}
 use Rattle.sheet.specs.Parts.{padsOf}
 use Rattle.sheet.specs.Joints.{jointsOf, total}
 

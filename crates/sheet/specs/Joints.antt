@@ -8,8 +8,8 @@ use Rattle.sheet.specs.declared.Joint.{Joint}
 use Rattle.sheet.specs.Points.{same, Rise, rises}
 
 -- where a joint lies
-abbrev pub place : Joint → Point
-place j = record { x = j .x; y = j .y }
+abbrev pub jointPoint : Joint → Point
+jointPoint j = record { x = j .x; y = j .y }
 
 -- the joint at a point with a count
 abbrev pub jointAt : Point → ℕ → Joint
@@ -19,8 +19,8 @@ jointAt p n = record { x = p .x; y = p .y; count = n }
 unfoldable pub bump : Point → List Joint → List Joint
 bump p [] = jointAt p 1 ∷ []
 bump p (j ∷ js) =
-    cond (rises p (place j)) (jointAt p 1 ∷ j ∷ js)
-    (cond (same p (place j)) (jointAt (place j) (suc (j .count)) ∷ js)
+    cond (rises p (jointPoint j)) (jointAt p 1 ∷ j ∷ js)
+    (cond (same p (jointPoint j)) (jointAt (jointPoint j) (suc (j .count)) ∷ js)
     (j ∷ bump p js))
 
 -- the joint rows of the points, each counted as often as it is listed
@@ -41,8 +41,8 @@ total (j ∷ js) = j .count + total js
 -- the count at p, 0 where no row has it
 unfoldable pub countAt : Point → List Joint → ℕ
 countAt p [] = zero
-countAt p (j ∷ js) = cond (same p (place j)) (j .count) (countAt p js)
+countAt p (j ∷ js) = cond (same p (jointPoint j)) (j .count) (countAt p js)
 
 -- joint rows strictly rise by (y, x)
 abbrev pub Rising : List Joint → Type 0
-Rising js = Rows (λ i j. Rise (place i) (place j)) js
+Rising js = Rows (λ i j. Rise (jointPoint i) (jointPoint j)) js

@@ -1,5 +1,5 @@
 pub mod Points
-pub mod Lines
+pub mod Geometry
 pub mod Split
 pub mod Merge
 pub mod Run

@@ -5,7 +5,7 @@ use mathlib.Core.List.{List}
 use mathlib.Core.Path.{_≡_}
 use Rattle.lists.specs.Lists.{_∈_}
 use Rattle.sheet.specs.declared.Wire.{Wire}
-use Rattle.sheet.specs.Lines.{Side, tip, Inside}
+use Rattle.sheet.specs.Geometry.{Side, tip, Inside}
 
 -- w, of n's direction and line, reaches over the stretch from a to a + 1
 pub record Covers (n w : Wire) (a : ℕ) : Type 0 where

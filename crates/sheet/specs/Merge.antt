@@ -7,7 +7,7 @@ use Rattle.sheet.specs.declared.Wire.{Wire}
 use Rattle.symbol.specs.declared.Point.{Point}
 use Rattle.lists.specs.Lists.{any}
 use Rattle.sheet.specs.Points.{same}
-use Rattle.sheet.specs.Lines.{tip, low, high}
+use Rattle.sheet.specs.Geometry.{tip, low, high}
 
 -- the test for `HeldApart`: the point has more than "exactly two wire ends in line, without a pad", namely an end of the other direction
 -- or a pad

@@ -12,10 +12,10 @@ use Rattle.sheet.specs.declared.Component.{Component}
 use Rattle.sheet.specs.declared.Joint.{Joint}
 use Rattle.sheet.specs.declared.Drawing.{Drawing}
 use Rattle.sheet.specs.Points.{Rise}
-use Rattle.sheet.specs.Lines.{ends, marks, Inside}
+use Rattle.sheet.specs.Geometry.{ends, marks, Inside}
 use Rattle.sheet.specs.Wiring.{Fits}
 use Rattle.sheet.specs.Boxes.{Shares}
-use Rattle.sheet.specs.Joints.{place, number, Rising}
+use Rattle.sheet.specs.Joints.{jointPoint, number, Rising}
 use Rattle.sheet.specs.Parts.{position, box, padsOf, PartFits}
 use Rattle.sheet.specs.Drawings.{Sheet, marksOf, zeroWire, zeroComponent, zeroJoint, listsOf, jointRows}
 
@@ -70,10 +70,10 @@ Rule5 cs = Rows (λ b c. Shares (box b) (box c) → ⊥) cs
 
 -- 6: "the joint rows list each point with a wire end or pad once, with the number of both, and nothing else"
 pub record Rule6 (js : List Joint) (ps : List Point) : Type 0 where
-  pub once : Rows (λ i j. place i ≢ place j) js
-  pub all : (p : Point) → p ∈ ps → (j : Joint) × j ∈ js × (place j ≡ p)
-  pub only : (j : Joint) → j ∈ js → place j ∈ ps
-  pub right : (j : Joint) → j ∈ js → j .count ≡ number (place j) ps
+  pub once : Rows (λ i j. jointPoint i ≢ jointPoint j) js
+  pub all : (p : Point) → p ∈ ps → (j : Joint) × j ∈ js × (jointPoint j ≡ p)
+  pub only : (j : Joint) → j ∈ js → jointPoint j ∈ ps
+  pub right : (j : Joint) → j ∈ js → j .count ≡ number (jointPoint j) ps
 
 -- 7: "rows strictly rise: horizontal wires by (y, x1), then vertical by (x, y1); components and joints by (y, x)"
 pub record Rule7 (s : Sheet) (js : List Joint) : Type 0 where

@@ -6,7 +6,7 @@ use lib.Dec.{eqb}
 use Rattle.sheet.specs.declared.Wire.{Wire}
 use Rattle.symbol.specs.declared.Point.{Point}
 use Rattle.lists.specs.Lists.{keep, insert}
-use Rattle.sheet.specs.Lines.{tips, marks, on, meets, first}
+use Rattle.sheet.specs.Geometry.{tips, marks, on, meets, first}
 use Rattle.sheet.specs.Split.{splitAll}
 
 -- "Remove each wire of the same direction that meets the new one, an end touch included": what is left

@@ -5,7 +5,7 @@ use mathlib.Core.List.{List, [], _∷_}
 use Rattle.sheet.specs.declared.Wire.{Wire}
 use Rattle.symbol.specs.declared.Point.{Point}
 use Rattle.lists.specs.Lists.{gather}
-use Rattle.sheet.specs.Lines.{along, inside}
+use Rattle.sheet.specs.Geometry.{along, inside}
 
 -- the part of a wire up to a place along it
 abbrev pub upTo : ℕ → Wire → Wire

@@ -8,7 +8,7 @@ use mathlib.Core.Logic.{_⊎_}
 use Rattle.sheet.specs.declared.Wire.{Wire}
 use Rattle.symbol.specs.declared.Point.{Point}
 use Rattle.lists.specs.Lists.{_∈_, Rows}
-use Rattle.sheet.specs.Lines.{high, tip, marks, EndAt, Inside, Follows, Before}
+use Rattle.sheet.specs.Geometry.{high, tip, marks, EndAt, Inside, Follows, Before}
 
 -- a wire of the direction has an end at the point
 pub record Ended (ws : List Wire) (d : Bool) (p : Point) : Type 0 where

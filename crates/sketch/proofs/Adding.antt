@@ -16,7 +16,7 @@ use Rattle.sketch.specs.declared.filled.Filled.{Filled}
 use Rattle.sketch.specs.declared.Sketch.{Sketch}
 use Rattle.sketch.specs.declared.Added.{Added}
 use Rattle.sketch.specs.Tables.{inserted}
-use Rattle.sketch.specs.Sketches.{hasRoom, placeOf, moreOf, countAfter, held, notHeld, heldIf, withComponent, addedOf}
+use Rattle.sketch.specs.Sketches.{hasRoom, rowFor, moreOf, countAfter, held, notHeld, heldIf, withComponent, addedOf}
 
 pub room-left : (n : ℕ) (f : Filled) {t : Bool} → t ≡ hasRoom n f → t ≡ true → n ≤ 1408 → (f .counted < 1408) × (f .used < 1408)
 room-left n f is there le =
@@ -24,14 +24,14 @@ room-left n f is there le =
 
 -- `table`: the sketch with another table
 module _ {A : Type 0} (s : Sketch) (table : List A → ℕ → Filled → Sketch) (n : ℕ) (f : Filled) (rows : List A) (old : ℕ) (back : Bool) (x : A) where
-  pub row-in : {t : Bool} {g : Filled} {p m count : ℕ} {new : List A} → t ≡ hasRoom n f → t ≡ true → g ≡ moreOf f back → p ≡ placeOf f back → m ≡ countAfter g old
-      → (new ≡ inserted p x rows) × (count ≡ m) → held (table new count g) ≡ heldIf (hasRoom n f) s (table (inserted (placeOf f back) x rows) (countAfter (moreOf f back) old) (moreOf f back))
+  pub row-in : {t : Bool} {g : Filled} {p m count : ℕ} {new : List A} → t ≡ hasRoom n f → t ≡ true → g ≡ moreOf f back → p ≡ rowFor f back → m ≡ countAfter g old
+      → (new ≡ inserted p x rows) × (count ≡ m) → held (table new count g) ≡ heldIf (hasRoom n f) s (table (inserted (rowFor f back) x rows) (countAfter (moreOf f back) old) (moreOf f back))
   row-in {t} {g} {p} {m} {count} {new} is there eg ep em e =
-      let er : new ≡ inserted (placeOf f back) x rows = e .0 ∙ ap (λ k. inserted k x rows) ep in
+      let er : new ≡ inserted (rowFor f back) x rows = e .0 ∙ ap (λ k. inserted k x rows) ep in
       let ec : count ≡ countAfter (moreOf f back) old = e .1 ∙ em ∙ ap (λ h. countAfter h old) eg in
       let room : true ≡ hasRoom n f = sym there ∙ is in
       (λ i. held (table (er i) (ec i) (eg i)))
-      ∙ (λ i. heldIf (room i) s (table (inserted (placeOf f back) x rows) (countAfter (moreOf f back) old) (moreOf f back)))
+      ∙ (λ i. heldIf (room i) s (table (inserted (rowFor f back) x rows) (countAfter (moreOf f back) old) (moreOf f back)))
 
 -- no room
 pub row-out : (s u : Sketch) (n : ℕ) (f : Filled) {t : Bool} → t ≡ hasRoom n f → t ≡ false → notHeld s ≡ heldIf (hasRoom n f) s u

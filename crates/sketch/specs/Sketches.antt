@@ -26,8 +26,8 @@ abbrev pub hasRoom : ℕ → Filled → Bool
 hasRoom n f = ltb (f .counted) n && ltb (f .used) n
 
 -- where the next row goes: behind the rows that count; or, where it is not to count, behind all
-abbrev pub placeOf : Filled → Bool → ℕ
-placeOf f back = cond back (f .used) (f .counted)
+abbrev pub rowFor : Filled → Bool → ℕ
+rowFor f back = cond back (f .used) (f .counted)
 
 -- with one row more
 abbrev pub moreOf : Filled → Bool → Filled
@@ -83,15 +83,15 @@ jointsAs s rows count f = record {
 
 abbrev pub withWire : Sketch → Bool → Wire → Sketch
 withWire s back w =
-    wiresAs s (inserted (placeOf (s .wires) back) w (s .drawing .wires .rows)) (countAfter (moreOf (s .wires) back) (s .drawing .wires .count)) (moreOf (s .wires) back)
+    wiresAs s (inserted (rowFor (s .wires) back) w (s .drawing .wires .rows)) (countAfter (moreOf (s .wires) back) (s .drawing .wires .count)) (moreOf (s .wires) back)
 
 abbrev pub withComponent : Sketch → Bool → Component → Sketch
 withComponent s back c =
-    componentsAs s (inserted (placeOf (s .components) back) c (s .drawing .components .rows)) (countAfter (moreOf (s .components) back) (s .drawing .components .count)) (moreOf (s .components) back)
+    componentsAs s (inserted (rowFor (s .components) back) c (s .drawing .components .rows)) (countAfter (moreOf (s .components) back) (s .drawing .components .count)) (moreOf (s .components) back)
 
 abbrev pub withJoint : Sketch → Bool → Joint → Sketch
 withJoint s back j =
-    jointsAs s (inserted (placeOf (s .joints) back) j (s .drawing .joints .rows)) (countAfter (moreOf (s .joints) back) (s .drawing .joints .count)) (moreOf (s .joints) back)
+    jointsAs s (inserted (rowFor (s .joints) back) j (s .drawing .joints .rows)) (countAfter (moreOf (s .joints) back) (s .drawing .joints .count)) (moreOf (s .joints) back)
 
 -- ---- a line: "a line that no row can hold" adds nothing
 

@@ -1,7 +1,7 @@
 // How far a table is filled.
 ghost use mathlib.Core.Path.{_≡_};
 ghost use Prim.Native.Nat.{_<_};
-ghost use Rattle.sketch.specs.Sketches.{hasRoom, placeOf, moreOf, countAfter};
+ghost use Rattle.sketch.specs.Sketches.{hasRoom, rowFor, moreOf, countAfter};
 
 // With how many rows that count, and with how many in all; and whether the table's count was told outright.
 pub struct Filled {
@@ -18,8 +18,8 @@ pub fn has_room(f: Filled, n: usize) -> bool
 }
 
 // Where the next row goes.
-pub fn place(f: Filled, behind: bool) -> usize
-    ensures { λ r. ⌜ r ≡ placeOf f behind ⌝ }
+pub fn row_for(f: Filled, behind: bool) -> usize
+    ensures { λ r. ⌜ r ≡ rowFor f behind ⌝ }
 {
     if behind { f.used } else { f.counted }
 }

@@ -11,7 +11,7 @@ use filled::Filled;
 use filled::count_after;
 use filled::has_room;
 use filled::more;
-use filled::place;
+use filled::row_for;
 use label::label_of;
 use sheet::Component;
 use sheet::Components;
@@ -107,7 +107,7 @@ fn add_wire_row(s: Sketch, behind: bool, w: Wire) -> Added
         let d = s.drawing;
         let t = d.wires;
         let mut drawing = d;
-        drawing.wires = put_wire(t, place(f, behind), w, count_after(g, t.count));
+        drawing.wires = put_wire(t, row_for(f, behind), w, count_after(g, t.count));
         let mut sketch = s;
         sketch.drawing = drawing;
         sketch.wires = g;
@@ -129,7 +129,7 @@ fn add_component_row(s: Sketch, behind: bool, c: Component) -> Added
         let d = s.drawing;
         let t = d.components;
         let mut drawing = d;
-        drawing.components = put_component(t, place(f, behind), c, count_after(g, t.count));
+        drawing.components = put_component(t, row_for(f, behind), c, count_after(g, t.count));
         let mut sketch = s;
         sketch.drawing = drawing;
         sketch.components = g;
@@ -151,7 +151,7 @@ fn add_joint_row(s: Sketch, behind: bool, j: Joint) -> Added
         let d = s.drawing;
         let t = d.joints;
         let mut drawing = d;
-        drawing.joints = put_joint(t, place(f, behind), j, count_after(g, t.count));
+        drawing.joints = put_joint(t, row_for(f, behind), j, count_after(g, t.count));
         let mut sketch = s;
         sketch.drawing = drawing;
         sketch.joints = g;

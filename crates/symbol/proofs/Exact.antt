@@ -18,7 +18,7 @@ use Rattle.orientation.proofs.Turns.{eighth-known}
 use Rattle.orientation.specs.declared.RotMirror.{RotMirror}
 use Rattle.edge.specs.Coordinates.{coordOf, biased}
 use Rattle.edge.proofs.Whole.{row-plus-left, row-minus-left, row-plus-right, row-minus-right, size-neg, size-added, added, pos-sub, neg-sub-suc}
-use Rattle.edge.proofs.Places.{back}
+use Rattle.edge.proofs.Coordinates.{back}
 use Rattle.symbol.specs.Symbols.{Offset, applied, movedOf, padsAt, padPoints, lowAt, highAt, boundsAt, Positioned}
 use Rattle.symbol.specs.declared.Point.{Point}
 

@@ -63,11 +63,11 @@ module _ {A : Type 0} (f : ℕ → A) (a : A) where
   pointer-nested x y n = (λ i. granted (orElse (unless (ranged 6000 x && ranged 6000 y) 1) (size-reply n i)) f a) ∙ two f a (ranged 6000 x && ranged 6000 y) (eqb (sizeOf n .reply) 0) 1 3 refl refl
 
   pub symbol-nested : (k n : ℕ) (x y : ℤ) → granted (symbolReply k n x y) f a ≡ cond (knownSymbol k n) (cond (ranged 5800 x && ranged 5800 y) a (f 1)) (f 4)
-  unfolding symbolReply pointReply
+  unfolding symbolReply
   symbol-nested k n x y = two f a (knownSymbol k n) (ranged 5800 x && ranged 5800 y) 4 1 refl refl
 
   pub component-nested : (k n : ℕ) (x y : ℤ) (l : Label) → granted (componentReply k n x y l) f a ≡ cond (knownSymbol k n) (cond (ranged 5800 x && ranged 5800 y) (cond (eqb (heldLabel l .reply) 0) a (f 5)) (f 1)) (f 4)
-  unfolding componentReply symbolReply pointReply
+  unfolding componentReply symbolReply
   component-nested k n x y l = (λ i. granted (orElse (orElse (unless (knownSymbol k n) 4) (unless (ranged 5800 x && ranged 5800 y) 1)) (label-reply l i)) f a) ∙ go (knownSymbol k n) (ranged 5800 x && ranged 5800 y) (eqb (heldLabel l .reply) 0)
     where
       go : (b c d : Bool) → granted (orElse (orElse (unless b 4) (unless c 1)) (unless d 5)) f a ≡ cond b (cond c (cond d a (f 5)) (f 1)) (f 4)

@@ -2,3 +2,4 @@ pub mod Symbols
 pub mod Steps
 pub mod Boxes
 pub mod Replies
+pub mod Answers

@@ -5,7 +5,7 @@ use mathlib.Core.Bool.{Bool, _&&_, cond}
 use lib.Dec.{eqb}
 use lib.IntN.{ℤ}
 use lib.Signed.{leZ}
-use Rattle.edge.specs.Coordinates.{ranged, sizeOf}
+use Rattle.edge.specs.Coordinates.{ranged, isPosition, sizeOf}
 use Rattle.label.specs.declared.Label.{Label}
 use Rattle.label.specs.Labels.{heldLabel}
 use Rattle.symbol.specs.Symbols.{knownSymbol}
@@ -36,9 +36,18 @@ wireReply line start end = orElse (unless (ranged 6000 line && (ranged 6000 star
 unfoldable pub pointerReply : ℤ → ℤ → ℤ → ℕ
 pointerReply x y size = orElse (pointReply 6000 x y) (sizeOf size .reply)
 
--- 4 "unknown kind, or not one of the eight orientations", as a number of an orientation "a number outside 0 to 7" (document 02, P1), 1
+-- 4 "unknown kind, or not one of the eight orientations", as a number of an orientation "a number outside 0 to 7" (document 02, P1), 1: by
+-- whether kind and orientation are known, and whether the position is in its range
+abbrev pub knownThenPlaced : Bool → Bool → ℕ
+knownThenPlaced known placed = orElse (unless known 4) (unless placed 1)
+
+-- of a position by its coordinates
 unfoldable pub symbolReply : ℕ → ℕ → ℤ → ℤ → ℕ
-symbolReply kind n x y = orElse (unless (knownSymbol kind n) 4) (pointReply 5800 x y)
+symbolReply kind n x y = knownThenPlaced (knownSymbol kind n) (ranged 5800 x && ranged 5800 y)
+
+-- of a position as rows hold it
+unfoldable pub heldReply : ℕ → ℕ → ℕ → ℕ → ℕ
+heldReply kind n x y = knownThenPlaced (knownSymbol kind n) (isPosition x && isPosition y)
 
 -- 4, 1, 5 "label too long or with another byte"
 unfoldable pub componentReply : ℕ → ℕ → ℤ → ℤ → Label → ℕ

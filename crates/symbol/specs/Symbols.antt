@@ -1,18 +1,15 @@
--- The symbols of document 01: boxes and pads, turned, moved to a position, and the refusals, in the numbers that rows hold.
+-- The symbols of document 01: boxes and pads, turned and moved to a position, in the numbers that rows hold.
 use Prim.Native.Nat.{ℕ, zero, suc, min, max, _≤_, _<_}
-use mathlib.Core.Bool.{Bool, _&&_, cond}
+use mathlib.Core.Bool.{Bool, _&&_}
 use mathlib.Core.List.{List, [], _∷_, _++_, map}
 use lib.Dec.{leb, ltb, eqb}
 use lib.IntN.{ℤ, pos, negℤ, _+ℤ_, _*ℤ_}
 use lib.ListN.{length, take}
-use Rattle.orientation.specs.Orientations.{eighth}
 use Rattle.orientation.specs.declared.RotMirror.{RotMirror}
-use Rattle.edge.specs.Coordinates.{coordOf, biased, insideOf}
+use Rattle.edge.specs.Coordinates.{coordOf, biased}
 use Rattle.symbol.specs.declared.Point.{Point}
 use Rattle.symbol.specs.declared.PadBlock.{PadBlock}
-use Rattle.symbol.specs.declared.PadsReply.{PadsReply}
 use Rattle.symbol.specs.declared.Bounds.{Bounds}
-use Rattle.symbol.specs.declared.BoundsReply.{BoundsReply}
 
 -- a point of a symbol, from its position
 pub record Offset : Type 0 where
@@ -89,30 +86,6 @@ boundsAt kind o x y = boxOf (movedOf o x y (lowAt kind)) (movedOf o x y (highAt 
 -- "4: unknown kind, or not one of the eight orientations"; "For orientations, reply 4 is now a number outside 0 to 7" (document 02, P1)
 abbrev pub knownSymbol : ℕ → ℕ → Bool
 knownSymbol kind n = leb kind 2 && ltb n 8
-
--- ---- "A box, pads or a turn asked of a bad kind, orientation or position get 4 or 1, in that order, and zeros for every number."
-
--- 4, 1, or 0 for neither
-unfoldable pub refusalOf : ℕ → ℕ → ℕ → ℕ → ℕ
-refusalOf kind n x y = cond (knownSymbol kind n) (cond (insideOf x && insideOf y) 0 1) 4
-
--- the pads, or the refusal and zeros
-abbrev pub padsFor : ℕ → PadBlock → PadsReply
-padsFor zero p = record { reply = 0; pads = p }
-padsFor (suc n) p = record { reply = suc n; pads = block [] }
-
--- the box, or the refusal and zeros
-abbrev pub boundsFor : ℕ → Bounds → BoundsReply
-boundsFor zero b = record { reply = 0; bounds = b }
-boundsFor (suc n) b = record { reply = suc n; bounds = boxOf unused unused }
-
--- the pads asked of a symbol
-unfoldable pub padsReplyOf : ℕ → ℕ → ℕ → ℕ → PadsReply
-padsReplyOf kind n x y = padsFor (refusalOf kind n x y) (padBlock kind (eighth n) x y)
-
--- the box asked of a symbol
-unfoldable pub aabbOf : ℕ → ℕ → ℕ → ℕ → BoundsReply
-aabbOf kind n x y = boundsFor (refusalOf kind n x y) (boundsAt kind (eighth n) x y)
 
 -- "no two component boxes share a point, edges counted": the test whether two do
 abbrev pub touchesOf : Bounds → Bounds → Bool

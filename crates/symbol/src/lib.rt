@@ -2,7 +2,9 @@
 ghost use mathlib.Core.Path.{_≡_};
 ghost use Prim.Native.Nat.{_≤_};
 ghost use Rattle.orientation.specs.Orientations.{eighth};
-ghost use Rattle.symbol.specs.Symbols.{Positioned, Placeable, knownSymbol, canTurn, movedOf, padBlock, boundsAt, refusalOf, padsReplyOf, aabbOf, touchesOf};
+ghost use Rattle.symbol.specs.Symbols.{Positioned, Placeable, knownSymbol, canTurn, movedOf, padBlock, boundsAt, touchesOf};
+ghost use Rattle.symbol.specs.Replies.{heldReply};
+ghost use Rattle.symbol.specs.Answers.{padsReplyOf, aabbOf};
 ghost use Rattle.symbol.specs.Steps.{offsetOf, alongOf, mapFirst, reachingOf, Near, Mapping, Reaching};
 
 // A point as rows hold it: each coordinate and 6,000 more. A row of zeros is no point.
@@ -110,7 +112,7 @@ pub fn is_known(kind: u8, n: u8) -> bool
 
 // 4 for an unknown kind or orientation, 1 for a position outside, else 0.
 fn refusal(kind: u8, n: u8, x: u16, y: u16) -> u8
-    ensures { λ r. ⌜ r ≡ refusalOf kind n x y ⌝ }
+    ensures { λ r. ⌜ r ≡ heldReply kind n x y ⌝ }
 {
     if is_known(kind, n) {
         if edge::is_position(x) & edge::is_position(y) {

@@ -6,7 +6,7 @@ use borrow.Author.Tests.{eq-eqb, ne-eqb}
 use lib.Dec.{leb, ltb}
 use Rattle.symbol.specs.declared.Point.{Point}
 use Rattle.sheet.specs.declared.Wire.{Wire}
-use Rattle.sheet.specs.Lines.{inside, first}
+use Rattle.sheet.specs.Geometry.{inside, first}
 use Rattle.sheet.specs.Split.{splitOne, left, right}
 
 pub split-inside : (p : Point) (w : Wire) → inside p w ≡ true → splitOne p w ≡ left p w ∷ right p w ∷ []

@@ -1,5 +1,5 @@
 // Tables of wires by value: each function does to the rows in use what its definition says of lists.
-pub mod lines;
+pub mod geometry;
 pub mod split;
 pub mod square;
 

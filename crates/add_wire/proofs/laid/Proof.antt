@@ -7,8 +7,8 @@ use native.Mathlib.Omega.{arith}
 use Rattle.add_wire.proofs.laid.Statement.{statement}
 use Rattle.add_wire.proofs.laid.Tie as tie
 
-place-of-requires : tie.Need-place-of-requires
-place-of-requires c κs = search needs
+rows-before-requires : tie.Need-rows-before-requires
+rows-before-requires c κs = search needs
 
 mark-ends-requires : tie.Need-mark-ends-requires
 mark-ends-requires c κs = search needs
@@ -20,7 +20,7 @@ no-wires-requires : tie.Need-no-wires-requires
 no-wires-requires c κs = search needs
 
 cut-rows-requires : tie.Need-cut-rows-requires
-cut-rows-requires c κs = (omega (arith, c .before .before .before .before .before .pre .0 .0, place-within _ (c .before .before .before .before .before .args .t .rows) (c .before .before .before .before .before .args .t .count) _ (c .before .before .before .before .place-of .ensures)), c .before .before .before .before .before .pre .0 .1 .1)
+cut-rows-requires c κs = (omega (arith, c .before .before .before .before .before .pre .0 .0, place-within _ (c .before .before .before .before .before .args .t .rows) (c .before .before .before .before .before .args .t .count) _ (c .before .before .before .before .rows-before .ensures)), c .before .before .before .before .before .pre .0 .1 .1)
 
 cut-run-requires : tie.Need-cut-run-requires
 cut-run-requires c κs = search needs
@@ -30,14 +30,14 @@ cut-rows-requires-2 c κs = search needs
 
 returns : tie.Need-returns
 returns c = let q = c .before .before .before .before .before .before .before .before .before .before .pre in
-    laid-table _ _ (c .before .before .before .before .before .before .before .before .before .before .args .t .rows) (c .before .before .before .before .before .before .before .before .before .before .args .t .count) _ (c .before .before .before .before .before .before .before .before .before .place-of .ensures) (c .before .before .before .before .before .before .before .mark-pads .ensures .so _ (c .before .before .before .before .before .before .before .before .mark-ends .ensures)) (q .0 .1 .1) (q .1 .1) (q .1 .0 .0) (q .1 .0 .1)
+    laid-table _ _ (c .before .before .before .before .before .before .before .before .before .before .args .t .rows) (c .before .before .before .before .before .before .before .before .before .before .args .t .count) _ (c .before .before .before .before .before .before .before .before .before .rows-before .ensures) (c .before .before .before .before .before .before .before .mark-pads .ensures .so _ (c .before .before .before .before .before .before .before .before .mark-ends .ensures)) (q .0 .1 .1) (q .1 .1) (q .1 .0 .0) (q .1 .0 .1)
     (grows-room _ refl (c .before .before .before .before .before .before .no-wires .ensures)) (c .before .before .before .before .cut-rows .ensures) (c .before .before .cut-run .ensures) (c .cut-rows2 .ensures)
 
 pub laid-spec : {M : Type 1} → statement M
 laid-spec =
     tie.close
     (tie.spec
-    place-of-requires
+    rows-before-requires
     mark-ends-requires
     mark-pads-requires
     no-wires-requires

@@ -2,7 +2,7 @@
 use borrow.Author.Needs.{needs}
 use lib.Dec.{lit≤}
 use borrow.Author.Tests.{not-true, not-false}
-use Rattle.cad.proofs.Places.{tested, converted, small-two}
+use Rattle.cad.proofs.Positions.{tested, converted, small-two}
 use Rattle.cad.proofs.Components.{unknown, off-sheet, mislabelled, past, shown}
 use Rattle.cad.proofs.component.Statement.{statement}
 use Rattle.cad.proofs.component.Tie as tie

@@ -1,6 +1,6 @@
 -- A float holds both coordinates, which come out of their bits as they were.
 use borrow.Author.Needs.{needs}
-use Rattle.cad.proofs.Places.{float-holds}
+use Rattle.cad.proofs.Positions.{float-holds}
 use Rattle.cad.proofs.convert.Statement.{statement}
 use Rattle.cad.proofs.convert.Tie as tie
 

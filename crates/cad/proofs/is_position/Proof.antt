@@ -1,14 +1,14 @@
--- What is told of the place is the test.
+-- What is told of the coordinate is the test.
 use borrow.Author.Needs.{needs}
-use Rattle.cad.proofs.Places.{place-test}
+use Rattle.cad.proofs.Positions.{position-test}
 use Rattle.cad.proofs.is_position.Statement.{statement}
 use Rattle.cad.proofs.is_position.Tie as tie
 
-place-component-requires : tie.Need-place-component-requires
-place-component-requires c κs = search needs
+held-position-requires : tie.Need-held-position-requires
+held-position-requires c κs = search needs
 
 returns : tie.Need-returns
-returns c = place-test 5800 (c .before .fits .z) (c .place-component .ensures)
+returns c = position-test 5800 (c .before .fits .z) (c .held-position .ensures)
 
 pub is-position-spec : {M : Type 1} → statement M
-is-position-spec = tie.close (tie.spec place-component-requires returns)
+is-position-spec = tie.close (tie.spec held-position-requires returns)

@@ -4,7 +4,7 @@ use lib.Dec.{lit≤}
 use lib.Ieee.{ofBits, ofInt}
 use borrow.Author.Tests.{not-true, not-false}
 use Rattle.draw.specs.Symbols.{whole}
-use Rattle.cad.proofs.Places.{tested, converted, small-two}
+use Rattle.cad.proofs.Positions.{tested, converted, small-two}
 use Rattle.cad.proofs.Marks.{mark-outside, dot, loose, bare}
 use Rattle.cad.proofs.junction.Statement.{statement}
 use Rattle.cad.proofs.junction.Tie as tie

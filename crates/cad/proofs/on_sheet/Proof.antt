@@ -1,14 +1,14 @@
--- What is told of the place is the test.
+-- What is told of the coordinate is the test.
 use borrow.Author.Needs.{needs}
-use Rattle.cad.proofs.Places.{place-test}
+use Rattle.cad.proofs.Positions.{position-test}
 use Rattle.cad.proofs.on_sheet.Statement.{statement}
 use Rattle.cad.proofs.on_sheet.Tie as tie
 
-place-requires : tie.Need-place-requires
-place-requires c κs = search needs
+held-coordinate-requires : tie.Need-held-coordinate-requires
+held-coordinate-requires c κs = search needs
 
 returns : tie.Need-returns
-returns c = place-test 6000 (c .before .fits .z) (c .place .ensures)
+returns c = position-test 6000 (c .before .fits .z) (c .held-coordinate .ensures)
 
 pub on-sheet-spec : {M : Type 1} → statement M
-on-sheet-spec = tie.close (tie.spec place-requires returns)
+on-sheet-spec = tie.close (tie.spec held-coordinate-requires returns)

@@ -3,7 +3,7 @@ use borrow.Author.Needs.{needs}
 use lib.Ieee.{ofBits, ofInt}
 use borrow.Author.Tests.{not-true, not-false}
 use Rattle.draw.specs.Symbols.{whole}
-use Rattle.cad.proofs.Places.{tested, less-test, converted}
+use Rattle.cad.proofs.Positions.{tested, less-test, converted}
 use Rattle.cad.proofs.Marks.{wire-outside, small-three, reversed, downward, across}
 use Rattle.cad.proofs.wire.Statement.{statement}
 use Rattle.cad.proofs.wire.Tie as tie

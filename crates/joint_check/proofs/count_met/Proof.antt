@@ -1,6 +1,7 @@
 -- After i keys each of them met a row, and the counts tell how often each row was met.
 use Prim.Native.Nat.{_-_, _≤_}
 use native.Mathlib.Omega.{arith}
+use borrow.Author.Needs.{needs}
 use mathlib.Core.Bool.{true, false≢true}
 use mathlib.Core.Path.{_≡_, refl}
 use lib.ListN.{length}
@@ -32,11 +33,11 @@ mul-k c = omega arith
 element-copy-out-k : tie.Need-element-copy-out-k Inv-loop μ-loop
 element-copy-out-k c = omega arith
 
-wide-requires : tie.Need-wide-requires Inv-loop μ-loop
-wide-requires c κs = tt
+cast-c : tie.Need-cast-c Inv-loop μ-loop
+cast-c c = search needs
 
-place-of-requires : tie.Need-place-of-requires Inv-loop μ-loop
-place-of-requires c κs = (c .before .before .before .before .before .before .before .before .before .before .before .pre .0, c .before .before .before .before .before .before .before .before .before .chain .ensures)
+seek-requires : tie.Need-seek-requires Inv-loop μ-loop
+seek-requires c κs = (c .before .before .before .before .before .before .before .before .before .before .pre .0, c .before .before .before .before .before .before .before .before .chain .ensures)
 
 returns : tie.Need-returns Inv-loop μ-loop
 returns c = λ e. absurd (false≢true e)
@@ -45,17 +46,17 @@ mul-met : tie.Need-mul-met Inv-loop μ-loop
 mul-met c = omega arith
 
 element-copy-out-met : tie.Need-element-copy-out-met Inv-loop μ-loop
-element-copy-out-met c = let p = c .before .before .before .before .before .before .before .before .before .before .before .before .before .pre .0 in omega arith
+element-copy-out-met c = let p = c .before .before .before .before .before .before .before .before .before .before .before .before .pre .0 in omega arith
 
 add-out : tie.Need-add-out Inv-loop μ-loop
-add-out c = let p = c .before .before .before .before .before .before .before .before .before .before .before .before .before .before .pre in
-    omega (arith, meeting-few _ _ (p .0) (c .before .before .before .before .before .before .before .before .before .before .before .before .before .joint-keys .ensures .size) (c .before .before .before .before .before .before .before .before .before .loop .inv .3) (c .before .before .place-of .result) (omega arith))
+add-out c = let p = c .before .before .before .before .before .before .before .before .before .before .before .before .before .pre in
+    omega (arith, meeting-few _ _ (p .0) (c .before .before .before .before .before .before .before .before .before .before .before .before .joint-keys .ensures .size) (c .before .before .before .before .before .before .before .before .loop .inv .3) (c .before .before .seek .result) (omega arith))
 
 mul-out : tie.Need-mul-out Inv-loop μ-loop
 mul-out c = omega arith
 
 element-write-out : tie.Need-element-write-out Inv-loop μ-loop
-element-write-out c = let p = c .before .before .before .before .before .before .before .before .before .before .before .before .before .before .pre .0 in omega arith
+element-write-out c = let p = c .before .before .before .before .before .before .before .before .before .before .before .before .before .pre .0 in omega arith
 
 add-i : tie.Need-add-i Inv-loop μ-loop
 add-i c = omega arith
@@ -65,10 +66,10 @@ loop-less c = omega arith
 
 loop-again : tie.Need-loop-again Inv-loop μ-loop
 loop-again c =
-    let p = c .before .before .before .before .before .before .before .before .before .before .before .before .before .before .pre in
-    let ks = c .before .before .before .before .before .before .before .before .before .before .before .before .before .joint-keys .ensures in
-    let l = c .before .before .before .before .before .before .before .before .before .loop in
-    (omega arith, l .inv .1, l .inv .2, meeting-next _ _ (p .0) (ks .size) (l .inv .3) (c .before .before .place-of .result) (omega arith) (keys-rise (p .1 .1) ks) (c .before .before .place-of .ensures) (c .before .before .before .before .before .before .wide .ensures) (omega arith))
+    let p = c .before .before .before .before .before .before .before .before .before .before .before .before .before .pre in
+    let ks = c .before .before .before .before .before .before .before .before .before .before .before .before .joint-keys .ensures in
+    let l = c .before .before .before .before .before .before .before .before .loop in
+    (omega arith, l .inv .1, l .inv .2, meeting-next _ _ (p .0) (ks .size) (l .inv .3) (c .before .before .seek .result) (omega arith) (keys-rise (p .1 .1) ks) (c .before .before .seek .ensures) refl (omega arith))
 
 returns-2 : tie.Need-returns-2 Inv-loop μ-loop
 returns-2 c = λ e. meeting-end (c .before .before .before .before .before .before .args .t2 .count) (c .before .loop .inv .3) (omega arith) (c .before .before .before .before .before .joint-keys .ensures .spots)
@@ -84,8 +85,8 @@ count-met-spec =
     loop-holds
     mul-k
     element-copy-out-k
-    wide-requires
-    place-of-requires
+    cast-c
+    seek-requires
     returns
     mul-met
     element-copy-out-met

@@ -7,7 +7,7 @@ use lib.ListN.{length, length-take}
 use borrow.Author.Needs.{needs}
 use Rattle.lists.proofs.Tables.{long}
 use Rattle.lists.proofs.Tests.{both}
-use Rattle.sheet.specs.Joints.{place}
+use Rattle.sheet.specs.Joints.{jointPoint}
 use Rattle.sheet.specs.Drawings.{wireRows, jointRows}
 use Rattle.wires.specs.Tables.{pointRows}
 use Rattle.joints.proofs.Keying.{marks-few}
@@ -34,7 +34,7 @@ returns c = λ e.
     let p = c .before .before .before .before .before .pre in
     let size : length (js .rows) ≡ 1408 = search long in
     let yes = both _ _ e in
-    let met = subst (λ ps. MetBy ps (map place (jointRows js)) (c .before .before .before .count-met .result .counts)) (c .before .before .before .before .mark-keys .ensures .points) (c .before .before .before .count-met .ensures (yes .0)) in
+    let met = subst (λ ps. MetBy ps (map jointPoint (jointRows js)) (c .before .before .before .count-met .result .counts)) (c .before .before .before .before .mark-keys .ensures .points) (c .before .before .before .count-met .ensures (yes .0)) in
     met-listed js (p .0) size (p .1 .0) met (c .before .counts-agree .ensures (yes .1))
 
 pub joints-listed-spec : {M : Type 1} → statement M

@@ -2,7 +2,7 @@
 use mathlib.Core.Bool.{true, false≢true}
 use mathlib.Core.Path.{_≡_, sym, _∙_}
 use borrow.Author.Tests.{not-false}
-use Rattle.sheet.specs.Lines.{marks}
+use Rattle.sheet.specs.Geometry.{marks}
 use Rattle.sheet.specs.Joints.{jointsOf}
 use Rattle.sheet.specs.Drawings.{wireRows, jointRows}
 use Rattle.sheet.proofs.Owned.{owned}

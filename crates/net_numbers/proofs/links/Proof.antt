@@ -4,7 +4,7 @@ use native.Mathlib.Omega.{arith}
 use mathlib.Core.Path.{_≡_, refl, _∙_}
 use lib.ListN.{length, length-set}
 use Rattle.lists.proofs.Tables.{long, row-in}
-use Rattle.sheet.specs.Lines.{ends}
+use Rattle.sheet.specs.Geometry.{ends}
 use Rattle.sheet.specs.Drawings.{wireRows, jointRows, zeroWire}
 use Rattle.nets.specs.Tables.{linkEnds}
 use Rattle.lists.proofs.Finding.{Filled, filled-start, filled-next, filled-end}

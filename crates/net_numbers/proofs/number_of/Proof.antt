@@ -1,5 +1,5 @@
 -- `net_numbers::number_of` meets its contract: the place of the point's key, counted from 1.
-use Rattle.net_numbers.proofs.Keys.{place-number}
+use Rattle.net_numbers.proofs.Keys.{index-number}
 use borrow.Author.Needs.{needs}
 use Rattle.net_numbers.proofs.number_of.Statement.{statement}
 use Rattle.net_numbers.proofs.number_of.Tie as tie
@@ -20,7 +20,7 @@ cast-result : tie.Need-cast-result
 cast-result c = search needs
 
 returns : tie.Need-returns
-returns c = place-number (c .find .ensures) (c .before .key .ensures)
+returns c = index-number (c .find .ensures) (c .before .key .ensures)
 
 pub number-of-spec : {M : Type 1} → statement M
 number-of-spec = tie.close (tie.spec key-requires cast-k find-requires add-result cast-result returns)

@@ -3,7 +3,7 @@ use Prim.Native.Nat.{_-_, _≤_}
 use Rattle.lists.proofs.Tables.{long}
 use Rattle.lists.proofs.Walks.{Linked, links-begin, links-end, links-next, links-none, links-stop}
 use Rattle.lists.specs.Lists.{links}
-use Rattle.sheet.specs.Joints.{place}
+use Rattle.sheet.specs.Joints.{jointPoint}
 use Rattle.sheet.specs.Points.{rises}
 use borrow.Author.Needs.{needs}
 use borrow.Author.Tests.{not-false, not-true}
@@ -14,7 +14,7 @@ use Rattle.row_order.proofs.joints_rise.Statement.{statement}
 use Rattle.row_order.proofs.joints_rise.Tie as tie
 
 abbrev Inv-loop : tie.InvT-loop
-Inv-loop js n a₀ i₀ a i = ((1 ≤ i) × (i ≤ n)) × (length (js .rows) ≡ 1408) × Linked (λ i j. rises (place i) (place j)) (js .rows) n i a (links (λ i j. rises (place i) (place j)) (take n (js .rows)))
+Inv-loop js n a₀ i₀ a i = ((1 ≤ i) × (i ≤ n)) × (length (js .rows) ≡ 1408) × Linked (λ i j. rises (jointPoint i) (jointPoint j)) (js .rows) n i a (links (λ i j. rises (jointPoint i) (jointPoint j)) (take n (js .rows)))
 
 abbrev μ-loop : tie.MeasureT-loop
 μ-loop js n a₀ i₀ a i = n - i

@@ -3,7 +3,7 @@ use mathlib.Core.Path.{_∙_, ap}
 use mathlib.Core.List.{List}
 use borrow.Author.Needs.{needs}
 use Rattle.symbol.specs.declared.Point.{Point}
-use Rattle.sheet.specs.Lines.{marks}
+use Rattle.sheet.specs.Geometry.{marks}
 use Rattle.sheet.specs.Joints.{jointsOf}
 use Rattle.sheet.specs.Drawings.{wireRows, jointTable}
 use Rattle.rules.proofs.count_afresh.Statement.{statement}

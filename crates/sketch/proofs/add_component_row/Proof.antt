@@ -12,8 +12,8 @@ has-room-requires c κs = search needs
 more-requires : tie.Need-more-requires
 more-requires c κs = room-left 128 (c .before .before .before .args .s .components) (c .before .has-room .ensures) (c .if1 .taken) (omega arith)
 
-place-requires : tie.Need-place-requires
-place-requires c κs = search needs
+row-for-requires : tie.Need-row-for-requires
+row-for-requires c κs = search needs
 
 count-after-requires : tie.Need-count-after-requires
 count-after-requires c κs = search needs
@@ -25,7 +25,7 @@ returns : tie.Need-returns
 returns c =
     let a = c .before .before .before .before .before .before .before .before .before .args in
     row-in (a .s) (componentsAs (a .s)) 128 (a .s .components) (a .s .drawing .components .rows) (a .s .drawing .components .count) (a .behind) (a .c)
-    (c .before .before .before .before .before .before .before .has-room .ensures) (c .before .before .before .before .before .before .if1 .taken) (c .before .before .before .before .before .more .ensures) (c .before .before .place .ensures) (c .before .count-after .ensures) (c .put-component .ensures)
+    (c .before .before .before .before .before .before .before .has-room .ensures) (c .before .before .before .before .before .before .if1 .taken) (c .before .before .before .before .before .more .ensures) (c .before .before .row-for .ensures) (c .before .count-after .ensures) (c .put-component .ensures)
 
 returns-2 : tie.Need-returns-2
 returns-2 c = let a = c .before .before .before .args in row-out (a .s) (withComponent (a .s) (a .behind) (a .c)) 128 (a .s .components) (c .before .has-room .ensures) (c .if1 .left)
@@ -36,7 +36,7 @@ add-component-row-spec =
     (tie.spec
     has-room-requires
     more-requires
-    place-requires
+    row-for-requires
     count-after-requires
     put-component-requires
     returns

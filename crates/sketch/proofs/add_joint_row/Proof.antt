@@ -12,8 +12,8 @@ has-room-requires c κs = search needs
 more-requires : tie.Need-more-requires
 more-requires c κs = room-left 1408 (c .before .before .before .args .s .joints) (c .before .has-room .ensures) (c .if1 .taken) (omega arith)
 
-place-requires : tie.Need-place-requires
-place-requires c κs = search needs
+row-for-requires : tie.Need-row-for-requires
+row-for-requires c κs = search needs
 
 count-after-requires : tie.Need-count-after-requires
 count-after-requires c κs = search needs
@@ -25,7 +25,7 @@ returns : tie.Need-returns
 returns c =
     let a = c .before .before .before .before .before .before .before .before .before .args in
     row-in (a .s) (jointsAs (a .s)) 1408 (a .s .joints) (a .s .drawing .joints .rows) (a .s .drawing .joints .count) (a .behind) (a .j)
-    (c .before .before .before .before .before .before .before .has-room .ensures) (c .before .before .before .before .before .before .if1 .taken) (c .before .before .before .before .before .more .ensures) (c .before .before .place .ensures) (c .before .count-after .ensures) (c .put-joint .ensures)
+    (c .before .before .before .before .before .before .before .has-room .ensures) (c .before .before .before .before .before .before .if1 .taken) (c .before .before .before .before .before .more .ensures) (c .before .before .row-for .ensures) (c .before .count-after .ensures) (c .put-joint .ensures)
 
 returns-2 : tie.Need-returns-2
 returns-2 c = let a = c .before .before .before .args in row-out (a .s) (withJoint (a .s) (a .behind) (a .j)) 1408 (a .s .joints) (c .before .has-room .ensures) (c .if1 .left)
@@ -36,7 +36,7 @@ add-joint-row-spec =
     (tie.spec
     has-room-requires
     more-requires
-    place-requires
+    row-for-requires
     count-after-requires
     put-joint-requires
     returns

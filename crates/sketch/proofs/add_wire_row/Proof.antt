@@ -12,8 +12,8 @@ has-room-requires c κs = search needs
 more-requires : tie.Need-more-requires
 more-requires c κs = room-left 512 (c .before .before .before .args .s .wires) (c .before .has-room .ensures) (c .if1 .taken) (omega arith)
 
-place-requires : tie.Need-place-requires
-place-requires c κs = search needs
+row-for-requires : tie.Need-row-for-requires
+row-for-requires c κs = search needs
 
 count-after-requires : tie.Need-count-after-requires
 count-after-requires c κs = search needs
@@ -25,7 +25,7 @@ returns : tie.Need-returns
 returns c =
     let a = c .before .before .before .before .before .before .before .before .before .args in
     row-in (a .s) (wiresAs (a .s)) 512 (a .s .wires) (a .s .drawing .wires .rows) (a .s .drawing .wires .count) (a .behind) (a .w)
-    (c .before .before .before .before .before .before .before .has-room .ensures) (c .before .before .before .before .before .before .if1 .taken) (c .before .before .before .before .before .more .ensures) (c .before .before .place .ensures) (c .before .count-after .ensures) (c .put-wire .ensures)
+    (c .before .before .before .before .before .before .before .has-room .ensures) (c .before .before .before .before .before .before .if1 .taken) (c .before .before .before .before .before .more .ensures) (c .before .before .row-for .ensures) (c .before .count-after .ensures) (c .put-wire .ensures)
 
 returns-2 : tie.Need-returns-2
 returns-2 c = let a = c .before .before .before .args in row-out (a .s) (withWire (a .s) (a .behind) (a .w)) 512 (a .s .wires) (c .before .has-room .ensures) (c .if1 .left)
@@ -36,7 +36,7 @@ add-wire-row-spec =
     (tie.spec
     has-room-requires
     more-requires
-    place-requires
+    row-for-requires
     count-after-requires
     put-wire-requires
     returns

@@ -2,7 +2,7 @@
 use borrow.Author.Needs.{needs}
 use mathlib.Core.Bool.{true, false, _&&_}
 use mathlib.Core.Path.{refl, sym, _∙_}
-use Rattle.edge.specs.Coordinates.{insideOf}
+use Rattle.edge.specs.Coordinates.{isPosition}
 use Rattle.symbol.proofs.Symbols.{refuse}
 use Rattle.symbol.proofs.refusal.Statement.{statement}
 use Rattle.symbol.proofs.refusal.Tie as tie
@@ -31,7 +31,7 @@ returns-2 c =
 returns-3 : tie.Need-returns-3
 returns-3 c =
     let s = c .before .before .args in
-    refuse (s .kind) (s .n) (s .x) (s .y) false (insideOf (s .x) && insideOf (s .y)) (sym (c .before .is-known .ensures) ∙ c .if1 .left) refl
+    refuse (s .kind) (s .n) (s .x) (s .y) false (isPosition (s .x) && isPosition (s .y)) (sym (c .before .is-known .ensures) ∙ c .if1 .left) refl
 
 pub refusal-spec : {M : Type 1} → statement M
 refusal-spec =

@@ -22,8 +22,8 @@ returns c = adds-full _ (c .if1 .taken)
 loop-holds : tie.Need-loop-holds Inv-loop μ-loop
 loop-holds c = slice-start _ _ _ _ _ refl
 
-cast-place : tie.Need-cast-place Inv-loop μ-loop
-cast-place c = omega arith
+cast-at : tie.Need-cast-at Inv-loop μ-loop
+cast-at c = omega arith
 
 element-copy-out-if3 : tie.Need-element-copy-out-if3 Inv-loop μ-loop
 element-copy-out-if3 c = omega arith
@@ -85,7 +85,7 @@ cut-run-spec =
     μ-loop
     returns
     loop-holds
-    cast-place
+    cast-at
     element-copy-out-if3
     no-room-requires
     returns-2

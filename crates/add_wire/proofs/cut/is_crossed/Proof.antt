@@ -17,8 +17,8 @@ on-requires c κs = search needs
 inside-requires : tie.Need-inside-requires
 inside-requires c κs = search needs
 
-cast-place : tie.Need-cast-place
-cast-place c = search needs
+cast-at : tie.Need-cast-at
+cast-at c = search needs
 
 element-copy-out-result : tie.Need-element-copy-out-result
 element-copy-out-result c = omega (arith, c .before .before .before .before .before .before .before .before .pre, crossed-low _ (c .before .before .before .before .before .before .before .before .args .marks .now) (c .before .before .before .before .before .before .before .before .args .w) (c .before .before .before .before .before .if1 .left) (c .before .before .before .before .point-of .ensures) (c .before .before .before .on .ensures) (c .before .before .inside .ensures) (c .before .if2 .taken))
@@ -37,7 +37,7 @@ is-crossed-spec =
     point-of-requires
     on-requires
     inside-requires
-    cast-place
+    cast-at
     element-copy-out-result
     returns-2
     returns-3)

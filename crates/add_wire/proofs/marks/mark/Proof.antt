@@ -12,8 +12,8 @@ on-requires c κs = search needs
 along-requires : tie.Need-along-requires
 along-requires c κs = search needs
 
-cast-place : tie.Need-cast-place
-cast-place c = search needs
+cast-at : tie.Need-cast-at
+cast-at c = search needs
 
 element-write-marks : tie.Need-element-write-marks
 element-write-marks c = omega (arith, c .along .ensures, on-true _ _ (sym (c .before .before .on .ensures) ∙ c .before .if1 .taken) .to)
@@ -27,4 +27,4 @@ returns-2 c = more-off _ _ _ (sym (c .before .on .ensures) ∙ c .if1 .left)
 pub mark-spec : {M : Type 1} → statement M
 mark-spec =
     tie.close
-    (tie.spec on-requires along-requires cast-place element-write-marks returns returns-2)
+    (tie.spec on-requires along-requires cast-at element-write-marks returns returns-2)

@@ -5,7 +5,7 @@ use lib.ListN.{length}
 use Rattle.lists.specs.Lists.{keep}
 use Rattle.lists.proofs.Tables.{long}
 use Rattle.lists.proofs.Passes.{Pass, pass-start, pass-next, pass-end, gather-keep}
-use Rattle.sheet.specs.Lines.{tips, on, ends}
+use Rattle.sheet.specs.Geometry.{tips, on, ends}
 use Rattle.add_wire.specs.Marks.{Marked}
 use Rattle.add_wire.proofs.Marking.{marked-none, marked-as}
 use native.Mathlib.Omega.{arith}

@@ -6,7 +6,7 @@ use lib.ListN.{length}
 use Rattle.lists.specs.Lists.{keep}
 use Rattle.lists.proofs.Tables.{long}
 use Rattle.lists.proofs.Passes.{Pass, pass-start, pass-next, pass-end, gather-keep, gather-each}
-use Rattle.sheet.specs.Lines.{on}
+use Rattle.sheet.specs.Geometry.{on}
 use Rattle.add_wire.specs.Marks.{More}
 use Rattle.add_wire.proofs.Marking.{more-none, more-then, more-as}
 use native.Mathlib.Omega.{arith}

@@ -1,5 +1,5 @@
 -- One end, then the other.
-use Rattle.sheet.specs.Lines.{on}
+use Rattle.sheet.specs.Geometry.{on}
 use Rattle.add_wire.proofs.Marking.{more-tips}
 use borrow.Author.Needs.{needs}
 use Rattle.add_wire.proofs.marks.mark_tips.Statement.{statement}

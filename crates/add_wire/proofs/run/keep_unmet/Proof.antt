@@ -4,7 +4,7 @@ use mathlib.Core.Bool.{not}
 use mathlib.Core.Logic.{⊎-elim}
 use mathlib.Core.Path.{_≡_, sym, ap, _∙_}
 use lib.ListN.{length}
-use Rattle.sheet.specs.Lines.{meets}
+use Rattle.sheet.specs.Geometry.{meets}
 use Rattle.sheet.specs.Run.{kept}
 use Rattle.lists.proofs.Tables.{long, holds-push, holds-as}
 use Rattle.lists.proofs.Passes.{Pass, pass-start, pass-next, pass-skip, pass-end, only, only-yes, only-no, keep-gather}

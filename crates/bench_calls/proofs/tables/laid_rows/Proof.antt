@@ -16,12 +16,12 @@ all-pads-requires c κs = search needs
 add-wire-requires : tie.Need-add-wire-requires
 add-wire-requires c κs = search needs
 
-word-requires : tie.Need-word-requires
-word-requires c κs = search needs
+cast-result : tie.Need-cast-result
+cast-result c = search needs
 
 returns : tie.Need-returns
 returns c = let s = c .before .before .before .before in
-    c .word .ensures ∙ grown-rows (c .before .before .add-wire .ensures) ∙ ap (λ (ps : List Point). grownRows (layWire (s .args .n) (wireRows (s .args .ws)) ps)) (c .before .before .before .all-pads .ensures .points-are)
+    grown-rows (c .before .before .add-wire .ensures) ∙ ap (λ (ps : List Point). grownRows (layWire (s .args .n) (wireRows (s .args .ws)) ps)) (c .before .before .before .all-pads .ensures .points-are)
 
 pub laid-rows-spec : {M : Type 1} → statement M
-laid-rows-spec = tie.close (tie.spec all-pads-requires add-wire-requires word-requires returns)
+laid-rows-spec = tie.close (tie.spec all-pads-requires add-wire-requires cast-result returns)

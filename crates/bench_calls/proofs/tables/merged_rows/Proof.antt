@@ -15,11 +15,11 @@ all-pads-requires c κs = search needs
 merge-requires : tie.Need-merge-requires
 merge-requires c κs = search needs
 
-word-requires : tie.Need-word-requires
-word-requires c κs = search needs
+cast-result : tie.Need-cast-result
+cast-result c = search needs
 
 returns : tie.Need-returns
-returns c = c .word .ensures ∙ c .before .merge .ensures .count-is ∙ ap (λ (ps : List Point). length (merge (wireRows (c .before .before .before .args .ws)) ps)) (c .before .before .all-pads .ensures .points-are)
+returns c = c .before .merge .ensures .count-is ∙ ap (λ (ps : List Point). length (merge (wireRows (c .before .before .before .args .ws)) ps)) (c .before .before .all-pads .ensures .points-are)
 
 pub merged-rows-spec : {M : Type 1} → statement M
-merged-rows-spec = tie.close (tie.spec all-pads-requires merge-requires word-requires returns)
+merged-rows-spec = tie.close (tie.spec all-pads-requires merge-requires cast-result returns)

@@ -1,7 +1,6 @@
 -- A number of one row.
 use Prim.Native.Nat.{_%_}
 use native.Mathlib.Omega.{arith}
-use mathlib.Core.Path.{_∙_}
 use Rattle.sheet.specs.declared.Wire.{Wire}
 use Rattle.bench_calls.proofs.Rowing.{row-is}
 use borrow.Author.Needs.{needs}
@@ -20,12 +19,12 @@ mul-w c = search needs
 element-copy-out-w : tie.Need-element-copy-out-w
 element-copy-out-w c = search needs
 
-wide-requires : tie.Need-wide-requires
-wide-requires c κs = search needs
+cast-result : tie.Need-cast-result
+cast-result c = search needs
 
 returns : tie.Need-returns
-returns c = let s = c .before .before .before in c .wide .ensures ∙ row-is (c .before .before .keep-unhit .ensures) (λ (r : Wire). r .line) (s .args .size % 512) _ (omega arith)
+returns c = let s = c .before .before .before in row-is (c .before .before .keep-unhit .ensures) (λ (r : Wire). r .line) (s .args .size % 512) _ (omega arith)
 
 pub unhit-row-spec : {M : Type 1} → statement M
 unhit-row-spec =
-    tie.close (tie.spec keep-unhit-requires cast-i mul-w element-copy-out-w wide-requires returns)
+    tie.close (tie.spec keep-unhit-requires cast-i mul-w element-copy-out-w cast-result returns)

@@ -1,7 +1,6 @@
 -- A number of one row.
 use Prim.Native.Nat.{_%_}
 use native.Mathlib.Omega.{arith}
-use mathlib.Core.Path.{_∙_}
 use Rattle.sheet.specs.declared.Component.{Component}
 use Rattle.bench_calls.proofs.Rowing.{row-is}
 use borrow.Author.Needs.{needs}
@@ -20,12 +19,12 @@ mul-c c = search needs
 element-copy-out-c : tie.Need-element-copy-out-c
 element-copy-out-c c = search needs
 
-wide-requires : tie.Need-wide-requires
-wide-requires c κs = search needs
+cast-result : tie.Need-cast-result
+cast-result c = search needs
 
 returns : tie.Need-returns
-returns c = let s = c .before .before .before in c .wide .ensures ∙ row-is (c .before .before .keep-unmet .ensures) (λ (r : Component). r .x) (s .args .size % 128) _ (omega arith)
+returns c = let s = c .before .before .before in row-is (c .before .before .keep-unmet .ensures) (λ (r : Component). r .x) (s .args .size % 128) _ (omega arith)
 
 pub unmet-row-spec : {M : Type 1} → statement M
 unmet-row-spec =
-    tie.close (tie.spec keep-unmet-requires cast-i mul-c element-copy-out-c wide-requires returns)
+    tie.close (tie.spec keep-unmet-requires cast-i mul-c element-copy-out-c cast-result returns)

@@ -5,7 +5,7 @@ use mathlib.Core.Path.{_≡_, refl, _∙_}
 use lib.ListN.{length}
 use Rattle.lists.proofs.Tables.{long}
 use Rattle.lists.proofs.Passes.{Pass, pass-start, pass-next, pass-end}
-use Rattle.sheet.specs.Lines.{tips, ends}
+use Rattle.sheet.specs.Geometry.{tips, ends}
 use Rattle.joints.specs.Keys.{Keyed}
 use Rattle.joints.proofs.Keying.{keyed-push-two}
 use Rattle.joints.proofs.keys.end_keys.Statement.{statement}

@@ -4,7 +4,7 @@ use native.Mathlib.Omega.{arith}
 use mathlib.Core.Path.{_≡_, _∙_}
 use lib.ListN.{length, length-set, length-replicate}
 use Rattle.lists.proofs.Tables.{long}
-use Rattle.sheet.specs.Joints.{place}
+use Rattle.sheet.specs.Joints.{jointPoint}
 use Rattle.sheet.specs.Drawings.{zeroJoint}
 use Rattle.joints.specs.Keys.{spot}
 use Rattle.lists.proofs.Finding.{Filled, filled-start, filled-next, filled-end}
@@ -12,7 +12,7 @@ use Rattle.joints.proofs.keys.joint_keys.Statement.{statement}
 use Rattle.joints.proofs.keys.joint_keys.Tie as tie
 
 abbrev Inv-loop : tie.InvT-loop
-Inv-loop js n keys₀ i₀ keys i = (i ≤ n) × (length (js .rows) ≡ 1408) × (length keys ≡ 1408) × Filled spot place (js .rows) i keys
+Inv-loop js n keys₀ i₀ keys i = (i ≤ n) × (length (js .rows) ≡ 1408) × (length keys ≡ 1408) × Filled spot jointPoint (js .rows) i keys
 
 abbrev μ-loop : tie.MeasureT-loop
 μ-loop js n keys₀ i₀ keys i = n - i

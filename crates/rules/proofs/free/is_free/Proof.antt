@@ -4,7 +4,7 @@ use Rattle.lists.proofs.Tables.{long}
 use Rattle.lists.proofs.Walks.{Rest, all-end, all-next, all-stop, rest-start}
 use Rattle.lists.specs.Lists.{all}
 use Rattle.rules.specs.Check.{free}
-use Rattle.sheet.specs.Lines.{inside}
+use Rattle.sheet.specs.Geometry.{inside}
 use borrow.Author.Needs.{needs}
 use lib.ListN.{take, length}
 use mathlib.Core.Bool.{not}

@@ -5,7 +5,7 @@ use Rattle.lists.proofs.Walks.{Rest, all-end, all-next, all-stop, rest-start}
 use Rattle.lists.specs.Lists.{all}
 use Rattle.rules.specs.Check.{free}
 use Rattle.sheet.specs.Drawings.{wireRows}
-use Rattle.sheet.specs.Joints.{place}
+use Rattle.sheet.specs.Joints.{jointPoint}
 use borrow.Author.Needs.{needs}
 use borrow.Author.Tests.{not-false, not-true}
 use lib.ListN.{take, length}
@@ -15,7 +15,7 @@ use Rattle.rules.proofs.free.none_inside.Statement.{statement}
 use Rattle.rules.proofs.free.none_inside.Tie as tie
 
 abbrev Inv-loop : tie.InvT-loop
-Inv-loop ws js n i₀ i = (i ≤ n) × (length (js .rows) ≡ 1408) × Rest (all (λ j. free (wireRows ws) (place j))) (js .rows) n i (all (λ j. free (wireRows ws) (place j)) (take n (js .rows)))
+Inv-loop ws js n i₀ i = (i ≤ n) × (length (js .rows) ≡ 1408) × Rest (all (λ j. free (wireRows ws) (jointPoint j))) (js .rows) n i (all (λ j. free (wireRows ws) (jointPoint j)) (take n (js .rows)))
 
 abbrev μ-loop : tie.MeasureT-loop
 μ-loop ws js n i₀ i = n - i

@@ -3,7 +3,7 @@ use Prim.Native.Nat.{_-_, _≤_}
 use Rattle.lists.proofs.Tables.{long}
 use Rattle.lists.proofs.Walks.{Rest, pairs-end, pairs-next, pairs-stop, rest-start}
 use Rattle.lists.specs.Lists.{pairs}
-use Rattle.sheet.specs.Joints.{place}
+use Rattle.sheet.specs.Joints.{jointPoint}
 use Rattle.sheet.specs.Points.{same}
 use borrow.Author.Needs.{needs}
 use borrow.Author.Tests.{not-false, not-true}
@@ -15,7 +15,7 @@ use Rattle.rules.proofs.listed.all_apart.Statement.{statement}
 use Rattle.rules.proofs.listed.all_apart.Tie as tie
 
 abbrev Inv-loop : tie.InvT-loop
-Inv-loop js n i₀ i = (i ≤ n) × (length (js .rows) ≡ 1408) × Rest (pairs (λ i j. not (same (place i) (place j)))) (js .rows) n i (pairs (λ i j. not (same (place i) (place j))) (take n (js .rows)))
+Inv-loop js n i₀ i = (i ≤ n) × (length (js .rows) ≡ 1408) × Rest (pairs (λ i j. not (same (jointPoint i) (jointPoint j)))) (js .rows) n i (pairs (λ i j. not (same (jointPoint i) (jointPoint j))) (take n (js .rows)))
 
 abbrev μ-loop : tie.MeasureT-loop
 μ-loop js n i₀ i = n - i

@@ -3,7 +3,7 @@ use Prim.Native.Nat.{_-_}
 use Rattle.lists.proofs.Tables.{long}
 use Rattle.lists.proofs.Walks.{Rest, all-end, all-next, all-stop, rest-at}
 use Rattle.lists.specs.Lists.{all}
-use Rattle.sheet.specs.Joints.{place}
+use Rattle.sheet.specs.Joints.{jointPoint}
 use Rattle.sheet.specs.Points.{same}
 use borrow.Author.Needs.{needs}
 use lib.ListN.{drop, take, length}
@@ -14,7 +14,7 @@ use Rattle.rules.proofs.listed.apart_from.Statement.{statement}
 use Rattle.rules.proofs.listed.apart_from.Tie as tie
 
 abbrev Inv-loop : tie.InvT-loop
-Inv-loop a k js n j₀ j = (length (js .rows) ≡ 1408) × Rest (all (λ b. not (same (place a) (place b)))) (js .rows) n j (all (λ b. not (same (place a) (place b))) (drop j₀ (take n (js .rows))))
+Inv-loop a k js n j₀ j = (length (js .rows) ≡ 1408) × Rest (all (λ b. not (same (jointPoint a) (jointPoint b)))) (js .rows) n j (all (λ b. not (same (jointPoint a) (jointPoint b))) (drop j₀ (take n (js .rows))))
 
 abbrev μ-loop : tie.MeasureT-loop
 μ-loop a k js n j₀ j = n - j
@@ -28,11 +28,11 @@ mul-b c = omega arith
 element-copy-out-b : tie.Need-element-copy-out-b Inv-loop μ-loop
 element-copy-out-b c = omega arith
 
-is-same-place-requires : tie.Need-is-same-place-requires Inv-loop μ-loop
-is-same-place-requires c κs = search needs
+at-one-point-requires : tie.Need-at-one-point-requires Inv-loop μ-loop
+at-one-point-requires c κs = search needs
 
 returns : tie.Need-returns Inv-loop μ-loop
-returns c = all-stop _ _ (c .before .before .before .before .loop .inv .1) (ap not (sym (c .before .is-same-place .ensures) ∙ c .if1 .taken)) (omega arith) (omega arith)
+returns c = all-stop _ _ (c .before .before .before .before .loop .inv .1) (ap not (sym (c .before .at-one-point .ensures) ∙ c .if1 .taken)) (omega arith) (omega arith)
 
 add-j : tie.Need-add-j Inv-loop μ-loop
 add-j c = omega arith
@@ -41,7 +41,7 @@ loop-less : tie.Need-loop-less Inv-loop μ-loop
 loop-less c = omega arith
 
 loop-again : tie.Need-loop-again Inv-loop μ-loop
-loop-again c = (omega arith, all-next _ _ (c .before .before .before .before .loop .inv .1) (ap not (sym (c .before .is-same-place .ensures) ∙ c .if1 .left)) (omega arith) (omega arith))
+loop-again c = (omega arith, all-next _ _ (c .before .before .before .before .loop .inv .1) (ap not (sym (c .before .at-one-point .ensures) ∙ c .if1 .left)) (omega arith) (omega arith))
 
 returns-2 : tie.Need-returns-2 Inv-loop μ-loop
 returns-2 c = all-end _ (c .before .loop .inv .1) (omega arith) (omega arith)
@@ -55,7 +55,7 @@ apart-from-spec =
     loop-holds
     mul-b
     element-copy-out-b
-    is-same-place-requires
+    at-one-point-requires
     returns
     add-j
     loop-less
