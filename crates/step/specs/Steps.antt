@@ -18,7 +18,7 @@ use Rattle.text.specs.Text.{decimalOf}
 use Rattle.netlist.specs.Listing.{listOf, looseOf}
 use Rattle.script.specs.declared.Command.{Command}
 use Rattle.script.specs.declared.Command.the-variants.{Horizontal, Vertical, Place, Delete, Turn, Mirror, Nets, Unreadable}
-use Rattle.script.specs.Grammar.{bytes}
+use Rattle.script.specs.Grammar.{byte, bytes}
 use Rattle.script.specs.Reading.{commandOf}
 use Rattle.step.specs.declared.replies.Stepped.{Stepped}
 
@@ -48,17 +48,21 @@ editOf d t line Unreadable = refused 10 d t
 
 -- ---- what is printed
 
+-- a letter and a number
+unfoldable pub numbered : ℕ → ℕ → List ℕ
+numbered letter n = letter ∷ bytes " " ++ (decimalOf n ++ bytes "\n")
+
 -- "Each edit prints `A <reply>`"
-unfoldable pub answered : ℕ → List ℕ
-answered reply = bytes "A " ++ (decimalOf reply ++ bytes "\n")
+abbrev pub answered : ℕ → List ℕ
+answered reply = numbered (byte "A") reply
 
 -- "for r and m followed by hit and lost, one space before each"
 unfoldable pub counted : ℕ → ℕ → ℕ → List ℕ
 counted reply hit lost = bytes "A " ++ (decimalOf reply ++ (bytes " " ++ (decimalOf hit ++ (bytes " " ++ (decimalOf lost ++ bytes "\n")))))
 
 -- "`E <loose>`"
-unfoldable pub looseLine : ℕ → List ℕ
-looseLine loose = bytes "E " ++ (decimalOf loose ++ bytes "\n")
+abbrev pub looseLine : ℕ → List ℕ
+looseLine loose = numbered (byte "E") loose
 
 -- what came of a line: the reply with the drawing and the tally after it; the list that it prints; and behind that its answer line
 pub record After : Type 0 where

@@ -6,7 +6,7 @@ ghost use Rattle.sheet.specs.Rules.{Lawful};
 ghost use Rattle.text.specs.Text.{Put};
 ghost use Rattle.script.specs.declared.Command.the-variants.{Nets};
 ghost use Rattle.step.specs.Steps;
-ghost use Rattle.step.specs.Steps.{answered, counted, looseLine, listedly};
+ghost use Rattle.step.specs.Steps.{counted, listedly, numbered};
 ghost use Rattle.step.specs.Telling.{Fitted, Replied, Tells, asksList, isCounted, replyLine, toldWith};
 use netlist::loose_on;
 use netlist::write_list_on;
@@ -29,12 +29,13 @@ pub struct Stepped {
     pub length: usize,
 }
 
-// `A <reply>`
-fn put_answer(line: &mut [u8], reply: u8) -> usize
-    ensures { λ r. ⌜ Put (now (line .entry)) 0 (answered reply) (now (line .exit)) r × (r ≤ 40) ⌝ }
+// `<letter> <number>`
+fn put_numbered(line: &mut [u8], letter: u8, n: u32) -> usize
+    ensures { λ r. ⌜ Put (now (line .entry)) 0 (numbered letter n) (now (line .exit)) r × (r ≤ 40) ⌝ }
 {
-    let p = put_bytes(line, 0, b"A ");
-    let p = put_decimal(line, p, reply as u32);
+    let p = put_byte(line, 0, letter);
+    let p = put_byte(line, p, b' ');
+    let p = put_decimal(line, p, n);
     put_byte(line, p, b'\n')
 }
 
@@ -48,15 +49,6 @@ fn put_counted(line: &mut [u8], reply: u8, hit: u32, lost: u32) -> usize
     let p = put_decimal(line, p, hit);
     let p = put_byte(line, p, b' ');
     let p = put_decimal(line, p, lost);
-    put_byte(line, p, b'\n')
-}
-
-// `E <loose>`
-fn put_loose(line: &mut [u8], loose: u32) -> usize
-    ensures { λ r. ⌜ Put (now (line .entry)) 0 (looseLine loose) (now (line .exit)) r × (r ≤ 40) ⌝ }
-{
-    let p = put_bytes(line, 0, b"E ");
-    let p = put_decimal(line, p, loose);
     put_byte(line, p, b'\n')
 }
 
@@ -80,7 +72,7 @@ fn put_reply(out: &mut [u8], counts: bool, reply: u8, hit: u32, lost: u32) -> us
         let n = put_counted(&mut line, reply, hit, lost);
         return put_fitting(out, 0, &line[..n]);
     }
-    let n = put_answer(&mut line, reply);
+    let n = put_numbered(&mut line, b'A', reply as u32);
     put_fitting(out, 0, &line[..n])
 }
 
@@ -115,7 +107,7 @@ fn tell_list(e: Edited, out: &mut [u8]) -> Stepped
         return told(refused(8, d, t), 0);
     }
     let mut line = [0u8; 40];
-    let n = put_loose(&mut line, loose_on(d));
+    let n = put_numbered(&mut line, b'E', loose_on(d));
     let length = put_fitting(out, l.length, &line[..n]);
     told(e, length)
 }

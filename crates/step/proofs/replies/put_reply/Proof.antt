@@ -19,16 +19,16 @@ returns c =
     rw (p .before .before .if1 .taken) (replied (p .put-counted .ensures .0) (p .put-counted .ensures .1) refl (f .put-fitting .ensures))
 
 slice-aggregate-put-fitting-2 : tie.Need-slice-aggregate-put-fitting-2
-slice-aggregate-put-fitting-2 c = let p = c .before .before .before .put-answer .ensures in line-short (p .0) (p .1) refl .0
+slice-aggregate-put-fitting-2 c = let p = c .before .before .before .put-numbered .ensures in line-short (p .0) (p .1) refl .0
 
 put-fitting-requires-2 : tie.Need-put-fitting-requires-2
-put-fitting-requires-2 c κs = let p = c .before .before .before .put-answer .ensures in (omega arith, (omega arith, line-short (p .0) (p .1) refl .1))
+put-fitting-requires-2 c κs = let p = c .before .before .before .put-numbered .ensures in (omega arith, (omega arith, line-short (p .0) (p .1) refl .1))
 
 returns-2 : tie.Need-returns-2
 returns-2 c =
     let f = c .before .before in
     let p = f .before .before .before .before in
-    rw (p .before .before .if1 .left) (replied (p .put-answer .ensures .0) (p .put-answer .ensures .1) refl (f .put-fitting2 .ensures))
+    rw (p .before .before .if1 .left) (replied (p .put-numbered .ensures .0) (p .put-numbered .ensures .1) refl (f .put-fitting2 .ensures))
 
 pub put-reply-spec : {M : Type 1} → statement M
 put-reply-spec =

@@ -27,7 +27,7 @@ loose-on-requires : tie.Need-loose-on-requires
 loose-on-requires c κs = c .before .before .before .before .before .before .before .before .before .before .before .pre (c .before .before .before .before .before .before .before .before .if1 .left)
 
 slice-aggregate-put-fitting : tie.Need-slice-aggregate-put-fitting
-slice-aggregate-put-fitting c = let p = c .before .before .before .put-loose in line-short (p .ensures .0) (p .ensures .1) refl .0
+slice-aggregate-put-fitting c = let p = c .before .before .before .put-numbered in line-short (p .ensures .0) (p .ensures .1) refl .0
 
 put-fitting-requires : tie.Need-put-fitting-requires
 put-fitting-requires c κs =
@@ -37,7 +37,7 @@ put-fitting-requires c κs =
     let s = i .before .before .before in
     let r = list-room (s .pre (i .if1 .left)) (owned (s .args .e .drawing) _ (s .good .0 .1 .1 .1 .1 .0 .1 .1)) in
     let inside = list-inside (s .args .e) (i .if1 .left) (s .args .out .now) (l .write-list-on .ensures .0) (l .write-list-on .ensures .1) r (c .before .before .before .before .before .before .if2 .left) in
-    (omega (arith, inside .0), (omega (arith, inside .1), line-short (p .put-loose .ensures .0) (p .put-loose .ensures .1) refl .1))
+    (omega (arith, inside .0), (omega (arith, inside .1), line-short (p .put-numbered .ensures .0) (p .put-numbered .ensures .1) refl .1))
 
 returns-3 : tie.Need-returns-3
 returns-3 c =
@@ -48,7 +48,7 @@ returns-3 c =
     let s = i .before .before .before in
     let r = list-room (s .pre (i .if1 .left)) (owned (s .args .e .drawing) _ (s .good .0 .1 .1 .1 .1 .0 .1 .1)) in
     told-list (s .args .e) (i .if1 .left) (s .args .out .now) (l .write-list-on .ensures .0) (l .write-list-on .ensures .1) r (p .before .before .before .if2 .left)
-    (p .before .loose-on .ensures) (p .put-loose .ensures .0) (p .put-loose .ensures .1) refl (f .put-fitting .ensures) (c .told3 .ensures)
+    (p .before .loose-on .ensures) (p .put-numbered .ensures .0) (p .put-numbered .ensures .1) refl (f .put-fitting .ensures) (c .told3 .ensures)
 
 pub tell-list-spec : {M : Type 1} → statement M
 tell-list-spec =
