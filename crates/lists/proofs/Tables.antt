@@ -2,13 +2,15 @@
 use Prim.Native.Nat.{ℕ, zero, suc, _+_, _-_, _≤_, _<_}
 use native.Mathlib.Nat.{sub-zero, not-suc-le-zero, le-of-suc-le-suc}
 use native.Mathlib.Omega.{arith}
+use mathlib.Core.Logic.{⊎-elim}
 use mathlib.Core.Path.{_≡_, refl, sym, ap, ap₂, _∙_, subst}
 use mathlib.Core.List.{List, [], _∷_, _++_, map, append-assoc, List·Memᴰ·head as ∈-head, List·Memᴰ·tail as ∈-tail, List·Memᴰ·not-nil as ∈-nil}
 use lib.ListN.{length, getD, take, drop, set, replicate, length-append, length-replicate, take-append-drop, length-drop, length-set, length-map}
-use lib.Seq.{set-append-seam, set-append-left, append-snoc, take-append-seam, drop-append-seam, length-take-le}
+use lib.Seq.{getD-set-same, getD-set-other, set-append-seam, set-append-left, append-snoc, take-append-seam, drop-append-seam, length-take-le}
 use Rattle.lists.specs.Lists.{_∈_}
 use Rattle.lists.specs.Tables.{pad, Holds}
 use Rattle.lists.proofs.Lists.{in-cons}
+use Rattle.lists.proofs.Tests.{decide, eqb-reads}
 
 -- what owning an array of structs tells of its length: of a struct's field it stands at a map over the list
 pub long : (X Y : Type 0) (f : X → Y) (l : List X) (n : ℕ) → length (map f l) ≡ n → length l ≡ n
@@ -27,6 +29,13 @@ module _ {A : Type 0} where
   same-row [] i d e h = absurd (not-suc-le-zero h)
   same-row (x ∷ rows) zero d e h = refl
   same-row (x ∷ rows) (suc i) d e h = same-row rows i d e (le-of-suc-le-suc h)
+
+  -- a row stored, as it tells at another place or at its own
+  pub set-tells : (P : ℕ → A → Type 0) (rows : List A) (i : ℕ) (x d : A) → i < length rows → P i x → ((j : ℕ) → (j ≡ i → ⊥) → P j (getD rows j d)) → (j : ℕ) → P j (getD (set rows i x) j d)
+  set-tells P rows i x d h p q j = ⊎-elim
+      (λ (e : j ≡ i). rw (e, getD-set-same rows i x d h) p)
+      (λ (n : j ≡ i → ⊥). rw (getD-set-other rows i j x d n) (q j n))
+      (decide (eqb-reads j i))
 
   -- ---- a table and its list
 
@@ -114,6 +123,21 @@ module _ {A : Type 0} where
   pub zeros-only : (z : A) (k : ℕ) {x : A} → x ∈ replicate k z → x ≡ z
   zeros-only z zero m = absurd (∈-nil m)
   zeros-only z (suc k) m = in-cons (λ x. x ≡ z) refl (λ x n. zeros-only z k n) m
+
+  zeros-read : (z : A) (k i : ℕ) → getD (replicate k z) i z ≡ z
+  zeros-read z zero i = refl
+  zeros-read z (suc k) zero = refl
+  zeros-read z (suc k) (suc i) = zeros-read z k i
+
+  -- zeros behind a list change nothing that is read
+  pub getD-pad : (n : ℕ) (z : A) (xs : List A) (i : ℕ) → getD (pad n z xs) i z ≡ getD xs i z
+  unfolding pad
+  getD-pad n z xs i = behind xs (n - length xs) i
+    where
+      behind : (ys : List A) (k i : ℕ) → getD (ys ++ replicate k z) i z ≡ getD ys i z
+      behind [] k i = zeros-read z k i
+      behind (y ∷ ys) k zero = refl
+      behind (y ∷ ys) k (suc i) = behind ys k i
 
   -- n rows, all zero from the count on
   pub blank-holds : {n : ℕ} {z : A} {rows : List A} {count : ℕ} → length rows ≡ n → count ≤ n → ((x : A) → x ∈ drop count rows → x ≡ z) → Holds n z (take count rows) rows count

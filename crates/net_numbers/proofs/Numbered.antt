@@ -5,15 +5,20 @@ use mathlib.Core.List.{List, map, Memᴰ·of-map as ∈-of-map, Memᴰ·append-l
 use mathlib.Core.Path.{_≡_, refl, sym, ap, subst, _∙_}
 use lib.ListN.{length, getD, length-map}
 use Rattle.lists.specs.Lists.{_∈_, keep}
+use Rattle.lists.proofs.Appends.{length-gather}
 use Rattle.lists.proofs.Lists.{gather-in, in-gather, keep-old}
 use Rattle.symbol.specs.declared.Point.{Point}
 use Rattle.sheet.specs.declared.Wire.{Wire}
 use Rattle.sheet.specs.declared.Joint.{Joint}
+use Rattle.sheet.specs.declared.Drawing.{Drawing}
 use Rattle.sheet.specs.Geometry.{tip, tips, low, high, ends}
 use Rattle.sheet.specs.Joints.{jointPoint}
 use Rattle.sheet.specs.Parts.{pads, padsOf}
-use Rattle.sheet.specs.Drawings.{Sheet, marksOf, joints, zeroJoint}
+use Rattle.sheet.specs.Drawings.{Sheet, marksOf, joints, zeroJoint, listsOf}
+use Rattle.sheet.specs.Rules.{Lawful}
 use Rattle.sheet.proofs.Points.{same-reads}
+use Rattle.sheet.proofs.Parts.{length-pads}
+use Rattle.sheet.proofs.Rules.{lawful-room}
 use Rattle.sheet.proofs.JointRows.{joints-listed}
 use Rattle.nets.specs.Nets.{Numbered}
 use Rattle.nets.specs.Numbers.{byNumber}
@@ -74,8 +79,12 @@ module _ (s : Sheet) where
   numbered = numbers-right own-numbers
 
   -- no number is above the number of pads
-  pub net-numbers-low : (i : ℕ) → getD (netNumbers s) i 0 ≤ length (padsOf (s .parts))
+  net-numbers-low : (i : ℕ) → getD (netNumbers s) i 0 ≤ length (padsOf (s .parts))
   unfolding netNumbers
   net-numbers-low i =
       let ns : List ℕ = map (numberOfJoint (joints s)) (padsOf (s .parts)) in
       omega (arith, numbers-low (byNumber (numberOfJoint (joints s)) (netOn s)) ns i, length-map (padsOf (s .parts)) (numberOfJoint (joints s)))
+
+-- a drawing has at most 384 pads
+pub net-numbers-few : {d : Drawing} → Lawful d → (i : ℕ) → getD (netNumbers (listsOf d)) i 0 ≤ 384
+net-numbers-few {d} l i = omega (arith, net-numbers-low (listsOf d) i, length-gather pads length-pads (listsOf d .parts), lawful-room l .parts)

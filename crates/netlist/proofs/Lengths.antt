@@ -8,19 +8,16 @@ use lib.Dec.{eqb}
 use lib.ListN.{length, length-append, length-map}
 use Rattle.lists.specs.Lists.{_∈_}
 use Rattle.lists.proofs.Tests.{Reads, pass, fail, eqb-reads}
-use Rattle.lists.proofs.Appends.{length-gather}
 use Rattle.lists.proofs.Finding.{in-take}
 use Rattle.label.proofs.Labels.{label-short}
 use Rattle.sheet.specs.declared.Drawing.{Drawing}
-use Rattle.sheet.specs.Parts.{pads}
 use Rattle.sheet.specs.Drawings.{Sized, listsOf}
 use Rattle.sheet.specs.Rules.{Lawful}
-use Rattle.sheet.proofs.Parts.{length-pads}
 use Rattle.sheet.proofs.Rules.{lawful-room}
 use Rattle.text.specs.Text.{decimalOf}
 use Rattle.text.proofs.Decimals.{length-decimal}
 use Rattle.net_numbers.specs.Netted.{netNumbers}
-use Rattle.net_numbers.proofs.Numbered.{net-numbers-low}
+use Rattle.net_numbers.proofs.Numbered.{net-numbers-few}
 use Rattle.netlist.specs.Listing.{switch, Entry, entry, padsIn, entryLines, linesIn, kindLines, listWith, nth, listOf}
 use Rattle.netlist.proofs.Spelling.{length-net, length-pin, length-relay, length-switch}
 
@@ -78,7 +75,7 @@ unfolding listOf
 list-room {d} l z =
     let s = listsOf d in
     let room = lawful-room l in
-    let low : (j : ℕ) → nth (netNumbers s) j < 1000 = λ j. omega (arith, net-numbers-low s j, length-gather pads length-pads (s .parts), room .parts) in
+    let low : (j : ℕ) → nth (netNumbers s) j < 1000 = λ j. omega (arith, net-numbers-few l j) in
     list-short (nth (netNumbers s)) (λ j. length-decimal 2 (nth (netNumbers s) j) (low j)) (map entry (s .parts))
     (λ e m. let r = ∈-of-map entry (s .parts) m in subst (λ (x : Entry). length (x .label) ≤ 16) (r .2) (omega (arith, label-short (r .0 .label), z .labels (r .0) (in-take (d .components .count) (d .components .rows) (r .1)))))
     (omega (arith, length-map (s .parts) entry, room .parts))

@@ -2,12 +2,13 @@
 use mathlib.Core.Path.{_≡_, refl, sym, ap, _∙_}
 use mathlib.Core.Bool.{cond}
 use mathlib.Core.List.{List, [], _∷_, _++_, map}
-use Prim.Native.Nat.{ℕ, zero, suc, _+_, _-_, _≤_, _<_}
+use Prim.Native.Nat.{ℕ, zero, suc, _+_, _≤_, _<_}
 use native.Mathlib.Omega.{arith}
 use lib.Dec.{eqb}
-use lib.ListN.{length, getD, drop, replicate, length-append}
+use lib.ListN.{length, getD, drop, length-append}
 use Rattle.lists.specs.Tables.{pad}
 use Rattle.lists.proofs.Tests.{choose, eqb-reads}
+use Rattle.lists.proofs.Tables.{getD-pad}
 use Rattle.lists.proofs.Walks.{rows-from, rows-past}
 use Rattle.sheet.specs.declared.Component.{Component}
 use Rattle.sheet.specs.declared.Components.{Components}
@@ -62,15 +63,4 @@ module _ (t : Components) (net : ℕ → ℕ) (kind at i : ℕ) (rows : t .count
 
 -- zeros behind the numbers change no number
 pub nth-pad : (n : ℕ) (ns : List ℕ) → nth (pad n 0 ns) ≡ nth ns
-unfolding pad
-nth-pad n ns = λ i j. behind ns (n - length ns) j i
-  where
-    all-zero : (k j : ℕ) → _≡_ {A = ℕ} (getD (replicate k 0) j 0) 0
-    all-zero zero j = refl
-    all-zero (suc k) zero = refl
-    all-zero (suc k) (suc j) = all-zero k j
-
-    behind : (ns : List ℕ) (k j : ℕ) → getD (ns ++ replicate k 0) j 0 ≡ getD ns j 0
-    behind [] k j = all-zero k j
-    behind (n ∷ ns) k zero = refl
-    behind (n ∷ ns) k (suc j) = behind ns k j
+nth-pad n ns = λ i j. getD-pad n 0 ns j i

@@ -4,19 +4,18 @@ use mathlib.Core.Logic.{_↔_}
 use mathlib.Core.List.{List, [], _∷_, _++_, map, Memᴰ·of-map as ∈-of-map, List·Memᴰ·head as ∈-head, List·Memᴰ·tail as ∈-tail}
 use Prim.Native.Nat.{ℕ, zero, suc, _+_, _≤_, _<_}
 use native.Mathlib.Omega.{arith}
-use lib.ListN.{length, getD, length-append, length-map}
+use lib.ListN.{length, length-append}
 use lib.Seq.{ext-getD}
 use Rattle.lists.specs.Lists.{_∈_, gather}
 use Rattle.lists.proofs.Lists.{in-gather, in-keep}
 use Rattle.lists.proofs.Tests.{eqb-reads}
-use Rattle.orientation.specs.Orientations.{eighth}
 use Rattle.symbol.specs.declared.Point.{Point}
-use Rattle.symbol.specs.Symbols.{padsAt, movedOf}
 use Rattle.sheet.specs.declared.Component.{Component}
 use Rattle.sheet.specs.Parts.{pads, padsOf}
 use Rattle.sheet.specs.Drawings.{Sheet}
+use Rattle.sheet.proofs.Parts.{pads-by-kind}
 use Rattle.nets.specs.Nets.{At, first, later, here}
-use Rattle.nets.proofs.At.{at-low, at-some, at-in}
+use Rattle.nets.proofs.At.{at-low, at-some, at-get, at-in}
 use Rattle.nets.proofs.Same.{SameNets, same-numbers}
 use Rattle.net_numbers.specs.Netted.{netOn, netNumbers}
 use Rattle.net_numbers.proofs.Numbered.{numbered}
@@ -26,10 +25,6 @@ use Rattle.netlist.proofs.Told.{padsAll, Agree, Alike, list-told}
 -- ---- places in a list
 
 module _ {A : Type 0} where
-  at-get : {xs : List A} {i : ℕ} {x : A} (d : A) → At xs i x → getD xs i d ≡ x
-  at-get d first = refl
-  at-get d (later a) = at-get d a
-
   at-left : {xs : List A} {i : ℕ} {x : A} (ys : List A) → At xs i x → At (xs ++ ys) i x
   at-left ys first = first
   at-left ys (later a) = later (at-left ys a)
@@ -40,10 +35,6 @@ module _ {A : Type 0} where
 
 -- ---- pads
 
-pub length-pads-in : (c : Component) → length (pads c) ≡ padsIn (c .kind)
-unfolding pads
-length-pads-in c = length-map (padsAt (c .kind)) (movedOf (eighth (c .orientation)) (c .x) (c .y))
-
 some-pad : (k : ℕ) → 0 < padsIn k
 some-pad zero = omega arith
 some-pad (suc zero) = omega arith
@@ -52,7 +43,7 @@ some-pad (suc (suc k)) = omega arith
 pub pads-total : (cs : List Component) → padsAll (map entry cs) ≡ length (padsOf cs)
 unfolding padsAll gather
 pads-total [] = refl
-pads-total (c ∷ cs) = omega (arith, length-append (pads c) (gather pads cs), length-pads-in c, pads-total cs)
+pads-total (c ∷ cs) = omega (arith, length-append (pads c) (gather pads cs), pads-by-kind c, pads-total cs)
 
 -- ---- power pads are on net 0
 
@@ -77,11 +68,11 @@ module _ (s : Sheet) where
   zeros [] i old at = tt
   zeros (c ∷ cs) i old at = (
     λ e.
-        let p = at-some (pads c) 0 (omega (arith, length-pads-in c, some-pad (c .kind))) in
+        let p = at-some (pads c) 0 (omega (arith, pads-by-kind c, some-pad (c .kind))) in
         let z : i + 0 ≡ i = omega arith in
         zero-at c (old c (∈-head refl)) e (subst (λ k. At (padsOf (s .parts)) k (p .0)) z (at 0 (p .0) (at-left (gather pads cs) (p .1)))) (at-in (p .1)),
     zeros cs (i + padsIn (c .kind)) (λ b m. old b (∈-tail m)) (λ j p a.
-        let z : i + (length (pads c) + j) ≡ i + padsIn (c .kind) + j = omega (arith, length-pads-in c) in
+        let z : i + (length (pads c) + j) ≡ i + padsIn (c .kind) + j = omega (arith, pads-by-kind c) in
         subst (λ k. At (padsOf (s .parts)) k p) z (at (length (pads c) + j) p (at-right (pads c) a))),
   )
 

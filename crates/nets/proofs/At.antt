@@ -5,7 +5,7 @@ use mathlib.Core.List.{List, [], _∷_, map, List·Memᴰ·head as ∈-head, Lis
 use Prim.Native.Nat.{ℕ, zero, suc, _<_, suc-le-suc}
 use native.Mathlib.Nat.{le-of-suc-le-suc}
 use native.Mathlib.Omega.{arith}
-use lib.ListN.{length}
+use lib.ListN.{length, getD}
 use Rattle.lists.specs.Lists.{_∈_}
 use Rattle.lists.proofs.Lists.{in-cons}
 use Rattle.nets.specs.Nets.{At, first, later}
@@ -24,6 +24,10 @@ module _ {A : Type 0} where
   pub at-one : {xs : List A} {i : ℕ} {x y : A} → At xs i x → At xs i y → x ≡ y
   at-one first first = refl
   at-one (later a) (later b) = at-one a b
+
+  pub at-get : {xs : List A} {i : ℕ} {x : A} (d : A) → At xs i x → getD xs i d ≡ x
+  at-get d first = refl
+  at-get d (later a) = at-get d a
 
   pub at-in : {xs : List A} {i : ℕ} {x : A} → At xs i x → x ∈ xs
   at-in first = ∈-head refl

@@ -3,16 +3,16 @@ use Prim.Native.Nat.{ℕ, zero, suc, _+_, _≤_}
 use native.Mathlib.Omega.{arith}
 use mathlib.Core.List.{List, [], _∷_, _++_}
 use mathlib.Core.Path.{_≡_, refl, sym, ap, subst, _∙_}
-use lib.ListN.{length, take, getD, set, replicate, length-append, length-set, length-take, length-replicate, length-map}
+use lib.ListN.{length, take, getD, set, replicate, length-append, length-set, length-take, length-replicate}
 use lib.Seq.{take-take, take-append-seam}
 use Rattle.lists.proofs.Pushes.{three-of, take-three}
 use Rattle.orientation.specs.Orientations.{eighth}
 use Rattle.symbol.specs.declared.Point.{Point}
 use Rattle.symbol.specs.declared.PadBlock.{PadBlock}
-use Rattle.symbol.specs.Symbols.{unused, padBlock, padsAt, movedOf}
+use Rattle.symbol.specs.Symbols.{unused, padBlock, padsAt}
 use Rattle.sheet.specs.declared.Component.{Component}
 use Rattle.sheet.specs.Parts.{pads}
-use Rattle.sheet.proofs.Parts.{length-pads}
+use Rattle.sheet.proofs.Parts.{pads-by-kind, length-pads}
 use Rattle.wires.specs.declared.Points.{Points}
 use Rattle.wires.specs.Tables.{pointRows}
 use Rattle.parts.specs.Tables.{Block, TabledPoints}
@@ -50,10 +50,6 @@ other-kinds zero n = refl
 other-kinds (suc zero) n = absurd (n refl)
 other-kinds (suc (suc k)) n = refl
 
-length-pads-of : (c : Component) → length (pads c) ≡ length (padsAt (c .kind))
-unfolding pads
-length-pads-of c = length-map (padsAt (c .kind)) (movedOf (eighth (c .orientation)) (c .x) (c .y))
-
 -- n is the number of the points
 pub record Many (ps : List Point) (n : ℕ) : Type 0 where
   pub count-is : n ≡ length ps
@@ -62,4 +58,4 @@ pub many-none : Many [] 0
 many-none = record { count-is = refl }
 
 pub many-more : {ps : List Point} {n m : ℕ} (c : Component) → Many ps n → m ≡ length (padsAt (c .kind)) → Many (ps ++ pads c) (n + m)
-many-more {ps} c h e = record { count-is = omega (arith, h .count-is, length-append ps (pads c), length-pads-of c) }
+many-more {ps} c h e = record { count-is = omega (arith, h .count-is, length-append ps (pads c), pads-by-kind c) }

@@ -24,9 +24,13 @@ near b c f g e =
     holds (shares-reads (box b) (box c))
     (common-touches (box b) (box c) (position c) (subst (λ p. T (within p (box b))) e (own-box (b .kind) (b .orientation) (b .x) (b .y) (f .orientation))) (own-box (c .kind) (c .orientation) (c .x) (c .y) (g .orientation)))
 
-pub length-pads : (c : Component) → length (pads c) ≤ 3
+-- a component has as many pads as its kind
+pub pads-by-kind : (c : Component) → length (pads c) ≡ length (padsAt (c .kind))
 unfolding pads
-length-pads c = omega (arith, length-map (padsAt (c .kind)) (movedOf (eighth (c .orientation)) (c .x) (c .y)), at-most (c .kind))
+pads-by-kind c = length-map (padsAt (c .kind)) (movedOf (eighth (c .orientation)) (c .x) (c .y))
+
+pub length-pads : (c : Component) → length (pads c) ≤ 3
+length-pads c = omega (arith, pads-by-kind c, at-most (c .kind))
   where
     at-most : (k : ℕ) → length (padsAt k) ≤ 3
     at-most zero = omega arith
