@@ -1,0 +1,3 @@
+pub mod Loose
+pub mod Counting
+pub mod Walking
