@@ -31,6 +31,7 @@ use Rattle.wires.specs.Tables.{Grows}
 use Rattle.joints.specs.Tables.{sheetOf}
 use Rattle.asked.specs.declared.AskedPointer.{AskedPointer}
 use Rattle.asked.specs.declared.AskedWire.{AskedWire}
+use Rattle.net_numbers.specs.Netted.{netNumbers}
 use Rattle.asked.specs.Asked.{askedWire, askedPart, askedPointer}
 use Rattle.bench_calls.specs.Numbered.{label}
 use Rattle.bench_calls.specs.Tables.{grownRows, lineAt, xAt, pointedAnswer, laidAnswer, insertedAnswer, wholeAnswer, tableAnswer}
@@ -124,9 +125,13 @@ module _ (call : ℕ) (d : Drawing) where
   unfolding wholeAnswer
   whole-joints f e = rw (ne-eqb call 13 f, eq-eqb call 14 e) refl
 
-  pub whole-pads : (call ≡ 13 → ⊥) → (call ≡ 14 → ⊥) → length (padsOf (listsOf d .parts)) ≡ wholeAnswer call d
+  pub whole-pads : (call ≡ 13 → ⊥) → (call ≡ 14 → ⊥) → call ≡ 15 → length (padsOf (listsOf d .parts)) ≡ wholeAnswer call d
   unfolding wholeAnswer
-  whole-pads f g = rw (ne-eqb call 13 f, ne-eqb call 14 g) refl
+  whole-pads f g e = rw (ne-eqb call 13 f, ne-eqb call 14 g, eq-eqb call 15 e) refl
+
+  pub whole-nets : (call ≡ 13 → ⊥) → (call ≡ 14 → ⊥) → (call ≡ 15 → ⊥) → getD (pad 384 0 (netNumbers (listsOf d))) 383 0 ≡ wholeAnswer call d
+  unfolding wholeAnswer
+  whole-nets f g h = rw (ne-eqb call 13 f, ne-eqb call 14 g, ne-eqb call 15 h) refl
 
   -- ---- by the number
 

@@ -12,7 +12,8 @@ use Rattle.sheet.specs.Drawings.{listsOf}
 use Rattle.rules.specs.Check.{checkOf}
 use Rattle.redraw.specs.declared.Edited.{Edited}
 use Rattle.schematic.specs.Calls.{checked}
-use Rattle.netlist.specs.Listing.{listOf, looseOf}
+use Rattle.loose_pads.specs.Counting.{looseOf}
+use Rattle.netlist.specs.Listing.{listOf}
 use Rattle.netlist.specs.Answers as netlist
 use Rattle.netlist.specs.declared.LooseCount.{LooseCount}
 use Rattle.bench_calls.specs.Numbered.{editOf}
@@ -59,7 +60,7 @@ module _ (call what : ℕ) (x y z : ℤ) (d : Drawing) (last : ℕ) where
   unfolding timedAnswer
   by-table a b e h = rw (le-ltb call 2 a, le-ltb call 4 b, le-ltb call 6 e, le-ltb call 8 h) refl
 
--- ---- loose points
+-- ---- loose pads
 
 module _ (call : ℕ) (d : Drawing) where
   pub loose-lawful : call ≡ 6 → looseOf (listsOf d) ≡ timedLoose call d

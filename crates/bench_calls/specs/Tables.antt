@@ -18,6 +18,7 @@ use Rattle.sheet.specs.Merge.{merge}
 use Rattle.sheet.specs.Parts.{ahead, padsOf}
 use Rattle.sheet.specs.Run.{layWire}
 use Rattle.sheet.specs.Split.{splitAt}
+use Rattle.net_numbers.specs.Netted.{netNumbers}
 use Rattle.asked.specs.Asked.{askedWire, askedPart, askedPointer}
 use Rattle.bench_calls.specs.Numbered.{label}
 
@@ -57,13 +58,14 @@ insertedAnswer x y d =
     let c = askedPart 1 0 x y label .part in
     cond (ltb (d .components .count) 128) (xAt (c .x % 128) (insert ahead c (listsOf d .parts))) 0
 
--- 13 wires merged, 14 joints counted, 15 pads
+-- 13 wires merged, 14 joints counted, 15 pads, 16 the last of the net numbers
 unfoldable pub wholeAnswer : ℕ → Drawing → ℕ
 wholeAnswer call d =
     let s = listsOf d in
     cond (eqb call 13) (length (merge (s .wires) (padsOf (s .parts))))
     (cond (eqb call 14) (length (jointsOf (marksOf s)))
-    (length (padsOf (s .parts))))
+    (cond (eqb call 15) (length (padsOf (s .parts)))
+    (getD (pad 384 0 (netNumbers s)) 383 0)))
 
 -- the operation of a number from 8 on
 unfoldable pub tableAnswer : ℕ → ℤ → ℤ → ℤ → Drawing → ℕ

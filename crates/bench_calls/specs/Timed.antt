@@ -11,7 +11,8 @@ use Rattle.sheet.specs.Drawings.{drawn, emptySheet, listsOf}
 use Rattle.rules.specs.Check.{checkOf}
 use Rattle.redraw.specs.declared.Edited.{Edited}
 use Rattle.schematic.specs.Calls.{checked}
-use Rattle.netlist.specs.Listing.{listOf, looseOf}
+use Rattle.loose_pads.specs.Counting.{looseOf}
+use Rattle.netlist.specs.Listing.{listOf}
 use Rattle.netlist.specs.Answers as netlist
 use Rattle.netlist.specs.Answers.{bufferOf, netlistIn}
 use Rattle.bench_calls.specs.Numbered.{editOf}
@@ -56,7 +57,7 @@ listAnswer call d last =
     let i = last % 7936 in
     cond (eqb call 4) (getD (bufferOf (listOf (listsOf d)) blank) i 0) (getD (netlistIn d blank) i 0)
 
--- 6 of a drawing known to be lawful, 7 by the public call: the number of loose points
+-- 6 of a drawing known to be lawful, 7 by the public call: the number of loose pads
 unfoldable pub timedLoose : ℕ → Drawing → ℕ
 timedLoose call d = cond (eqb call 6) (looseOf (listsOf d)) (netlist.looseAnswer d .count)
 

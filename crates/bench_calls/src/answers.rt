@@ -73,7 +73,7 @@ fn list_answer(call: u8, d: Drawing, last: u32) -> u32
     number_of_byte(out[i])
 }
 
-// The number of loose points: 6 of a drawing known to be lawful, else by the public call.
+// The number of loose pads: 6 of a drawing known to be lawful, else by the public call.
 fn loose_answer(call: u8, d: Drawing) -> u32
     requires { ⌜ Lawful d ⌝ }
     ensures { λ r. ⌜ r ≡ timedLoose call d ⌝ }

@@ -2,9 +2,10 @@
 ghost use mathlib.Core.Bool.{not};
 ghost use mathlib.Core.Path.{_≡_};
 ghost use Prim.Native.Nat.{_≤_, _<_, _%_};
-ghost use lib.ListN.{length};
+ghost use lib.ListN.{length, getD};
 ghost use Rattle.lists.specs.Lists.{keep, insert};
-ghost use Rattle.sheet.specs.Drawings.{wireRows, componentRows};
+ghost use Rattle.lists.specs.Tables.{pad};
+ghost use Rattle.sheet.specs.Drawings.{wireRows, componentRows, listsOf};
 ghost use Rattle.sheet.specs.Edits.{meetsWire, meetsPart};
 ghost use Rattle.sheet.specs.Joints.{jointsOf};
 ghost use Rattle.sheet.specs.Geometry.{marks};
@@ -13,6 +14,7 @@ ghost use Rattle.sheet.specs.Parts.{ahead, padsOf};
 ghost use Rattle.sheet.specs.Rules.{Lawful};
 ghost use Rattle.sheet.specs.Run;
 ghost use Rattle.sheet.specs.Split.{splitAt};
+ghost use Rattle.net_numbers.specs.Netted.{netNumbers};
 ghost use Rattle.parts.specs.Tables.{PartsFit, TabledParts};
 ghost use Rattle.bench_calls.specs.Tables.{grownRows, lineAt, xAt, pointedAnswer, laidAnswer, insertedAnswer, wholeAnswer, tableAnswer};
 use crate::edits::k_label;
@@ -20,6 +22,7 @@ use asked::asked_part;
 use asked::asked_pointer;
 use asked::asked_wire;
 use joints::count_joints;
+use net_numbers::pad_numbers;
 use parts::insert::insert_part;
 use parts::pads::all_pads;
 use parts::square::keep_unmet;
@@ -158,7 +161,15 @@ fn inserted_answer(d: Drawing, x: i32, y: i32) -> u32
     inserted_row(cs, c)
 }
 
-// Of the whole drawing: 13 wires merged, 14 joints counted, else pads.
+fn last_net(d: Drawing) -> u32
+    requires { ⌜ Lawful d ⌝ }
+    ensures { λ r. ⌜ r ≡ getD (pad 384 0 (netNumbers (listsOf d))) 383 0 ⌝ }
+{
+    let numbers = pad_numbers(d);
+    numbers[383] as u32
+}
+
+// Of the whole drawing: 13 wires merged, 14 joints counted, 15 pads, else net numbers.
 fn whole_answer(call: u8, d: Drawing) -> u32
     requires { ⌜ Lawful d ⌝ }
     ensures { λ r. ⌜ r ≡ wholeAnswer call d ⌝ }
@@ -171,7 +182,10 @@ fn whole_answer(call: u8, d: Drawing) -> u32
     if call == 14 {
         return joint_rows(ws, cs);
     }
-    pad_rows(cs)
+    if call == 15 {
+        return pad_rows(cs);
+    }
+    last_net(d)
 }
 
 // The operation by its number.

@@ -1,7 +1,8 @@
--- Under the translation the list of a sheet is that of the plan, and so are its loose points.
+-- Under the translation the list of a sheet is that of the plan, and so are its loose pads.
 use mathlib.Core.List.{List, map}
 use mathlib.Core.Path.{_≡_, refl, ap, _∙_}
 use lib.Dec.{eqb}
+use lib.ListN.{length}
 use Rattle.lists.specs.Lists.{keep}
 use Rattle.lists.proofs.Mapped.{keep-mapped, map-mapped}
 use Rattle.sheet.specs.declared.Component.{Component}
@@ -9,7 +10,8 @@ use Rattle.sheet.specs.Parts.{padsOf}
 use Rattle.sheet.specs.Drawings.{Sheet}
 use Rattle.nets.specs.Numbers.{byNumber, numbersOf}
 use Rattle.net_numbers.specs.Netted.{numberOfJoint, isPower, endsOf, netNumbers}
-use Rattle.netlist.specs.Listing.{listWith, nth, looseIn, entry, listOf, looseOf}
+use Rattle.loose_pads.specs.Counting.{loosePads, looseOf}
+use Rattle.netlist.specs.Listing.{listWith, nth, entry, listOf}
 use Rattle.four.specs.Plans as Plans
 use Rattle.four.specs.Listing as Four
 use Rattle.four.specs.Request1.{four}
@@ -28,4 +30,4 @@ same-list s = λ i. listWith (nth (same-numbers s i)) (map-mapped four Four.entr
 
 pub same-loose : (s : Sheet) → Four.looseOf (fours s) ≡ looseOf s
 unfolding Four.looseOf looseOf
-same-loose s = ap looseIn (same-joints s)
+same-loose s = λ i. length (loosePads (map-mapped four (λ c. c .kind) (λ c. c .kind) (λ c. refl) (s .parts) i) (same-numbers s i))

@@ -9,7 +9,8 @@ use Rattle.rules.specs.declared.Checked.{Checked}
 use Rattle.rules.specs.Check.{lawful}
 use Rattle.redraw.specs.declared.Edited.{Edited}
 use Rattle.schematic.specs.Calls.{checked}
-use Rattle.netlist.specs.Listing.{listOf, looseOf}
+use Rattle.loose_pads.specs.Counting.{looseOf}
+use Rattle.netlist.specs.Listing.{listOf}
 use Rattle.netlist.specs.Answers.{toldLength, answerOf, bufferOf, looseCount, netlistOf, netlistIn, looseAnswer}
 use Rattle.four.specs.Plans as Plans
 use Rattle.four.specs.Listing as FourListing

@@ -1,4 +1,4 @@
--- The calls under the four numbers: turns, boxes and pads, shapes, the five edits, the list and the loose points, each with its refusals.
+-- The calls under the four numbers: turns, boxes and pads, shapes, the five edits, the list and the loose pads, each with its refusals.
 -- "Order: 10, 9, 4, 1, 2, 3, 5, 6, 7, 8; the first that applies."
 use Prim.Native.Nat.{ℕ}
 use mathlib.Core.Bool.{Bool, _&&_, cond, not}
@@ -141,6 +141,6 @@ netlistOf d room = cond (lawful d) (answerOf (listOf (listsOf d)) room) (toldLen
 unfoldable pub netlistIn : Drawing → List ℕ → List ℕ
 netlistIn d old = cond (lawful d) (bufferOf (listOf (listsOf d)) old) old
 
--- 9 and no count, or how many points are loose
+-- 9 and no count, or how many pads are loose
 unfoldable pub looseAnswer : Drawing → LooseCount
 looseAnswer d = cond (lawful d) (looseCount 0 (looseOf (listsOf d))) (looseCount 9 0)

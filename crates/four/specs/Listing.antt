@@ -1,14 +1,16 @@
--- The wiring list and the loose points of a plan (document 01, "Nets and the list").
+-- The wiring list of a plan (document 01, "Nets and the list"), and its loose pads (document 02, P2).
 use Prim.Native.Nat.{ℕ}
 use mathlib.Core.List.{List, map}
 use lib.Dec.{eqb}
+use lib.ListN.{length}
 use Rattle.lists.specs.Lists.{keep}
 use Rattle.label.specs.Labels.{labelPart}
 use Rattle.symbol.specs.declared.Point.{Point}
 use Rattle.nets.specs.Nets.{Net}
 use Rattle.nets.specs.Numbers.{byNumber, numbersOf}
 use Rattle.net_numbers.specs.Netted.{endsOf, numberOfJoint}
-use Rattle.netlist.specs.Listing.{Entry, nth, listWith, looseIn}
+use Rattle.loose_pads.specs.Counting.{loosePads}
+use Rattle.netlist.specs.Listing.{Entry, nth, listWith}
 use Rattle.four.specs.Plans.{Part, Plan, padsOf, joints}
 
 -- what joins the points of a plan: the wires and the power pads
@@ -26,6 +28,6 @@ entry c = record { kind = c .kind; label = labelPart (c .label) }
 unfoldable pub listOf : Plan → List ℕ
 listOf s = listWith (nth (netNumbers s)) (map entry (s .parts))
 
--- "a loose point is a joint whose count is 1"
+-- how many pads are loose, by the kinds of the components and the net numbers of their pads
 unfoldable pub looseOf : Plan → ℕ
-looseOf s = looseIn (joints s)
+looseOf s = length (loosePads (map (λ c. c .kind) (s .parts)) (netNumbers s))

@@ -31,7 +31,8 @@ use Rattle.rules.specs.Check.{checkOf}
 use Rattle.redraw.specs.declared.Edited.{Edited}
 use Rattle.redraw.specs.Calls.{addWire, addComponent, deleteAt, rotateAt, mirrorAt}
 use Rattle.schematic.specs.Calls.{checked}
-use Rattle.netlist.specs.Listing.{listOf, looseOf}
+use Rattle.loose_pads.specs.Counting.{looseOf}
+use Rattle.netlist.specs.Listing.{listOf}
 use Rattle.netlist.specs.Answers.{netlistOf, netlistIn, looseAnswer}
 use Rattle.four.specs.Four
 
@@ -110,7 +111,7 @@ pub record SameCalls : Type 0 where
   pub turn : SamePointer (λ d x y s t. Four.checked d t (Four.rotateAt d x y s t)) (λ d x y s t. checked d t (rotateAt d x y s t))
   pub mirror : SamePointer (λ d x y s t. Four.checked d t (Four.mirrorAt d x y s t)) (λ d x y s t. checked d t (mirrorAt d x y s t))
 
--- the list, the loose points, joints and tally of a drawing; the three calls for them, with 9
+-- the list, the loose pads, joints and tally of a drawing; the three calls for them, with 9
 pub record SameLists (d : Drawing) : Type 0 where
   pub list : Four.listOf (Four.listsOf (fourDrawing d)) ≡ listOf (listsOf d)
   pub loose : Four.looseOf (Four.listsOf (fourDrawing d)) ≡ looseOf (listsOf d)

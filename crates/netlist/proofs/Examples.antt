@@ -17,7 +17,9 @@ use Rattle.sheet.specs.Examples.{script}
 use Rattle.nets.specs.Numbers.{merged, netFrom, firstNet, netOf, rank, meet, numberFrom, numbering, numbersOf}
 use Rattle.text.specs.Text.{digitsIn, decimalOf}
 use Rattle.net_numbers.specs.Netted.{numberOfJoint, netNumbers}
-use Rattle.netlist.specs.Listing.{netWord, pinWord, relay, switch, entryLines, linesIn, kindLines, listWith, listOf, looseIn, looseOf}
+use Rattle.loose_pads.specs.Loose.{padNames}
+use Rattle.loose_pads.specs.Counting.{occurs, spare, isLoose, numbersFrom, loosePads, looseOf}
+use Rattle.netlist.specs.Listing.{netWord, pinWord, relay, switch, entryLines, linesIn, kindLines, listWith, listOf}
 
 -- the lines are `R N0 K1.A K1.B`, `S K1.A N0 N1` and `S K1.B N0 N2`
 whole-output : listOf script
@@ -27,7 +29,7 @@ whole-output : listOf script
 unfolding any keep insert gather span biased labelPart same rises ends inside on meets first splitOne splitAt splitAll kept run rest standing lay layWire drawWire bump jointsOf pads joints wire placeOne merged netFrom firstNet netOf rank meet numberFrom numbering numbersOf digitsIn decimalOf numberOfJoint netNumbers netWord pinWord relay switch entryLines linesIn kindLines listWith listOf
 whole-output = refl
 
--- `E 2`
-loose-points : looseOf script ≡ 2
-unfolding any keep insert gather biased same rises ends inside on meets first splitOne splitAt splitAll kept run rest standing lay layWire drawWire bump jointsOf pads joints wire placeOne looseIn looseOf
-loose-points = refl
+-- `E 2`: A and B of the contact
+loose-pads : looseOf script ≡ 2
+unfolding any keep insert gather span biased same rises ends inside on meets first splitOne splitAt splitAll kept run rest standing lay layWire drawWire bump jointsOf pads joints wire placeOne merged netFrom firstNet netOf rank meet numberFrom numbering numbersOf numberOfJoint netNumbers padNames occurs spare isLoose numbersFrom loosePads looseOf
+loose-pads = refl

@@ -7,9 +7,10 @@ use lib.ListN.{length, drop}
 use Rattle.sheet.specs.declared.Drawing.{Drawing}
 use Rattle.sheet.specs.Drawings.{listsOf}
 use Rattle.rules.specs.Check.{lawful}
+use Rattle.loose_pads.specs.Counting.{looseOf}
 use Rattle.netlist.specs.declared.Listed.{Listed}
 use Rattle.netlist.specs.declared.LooseCount.{LooseCount}
-use Rattle.netlist.specs.Listing.{listOf, looseOf}
+use Rattle.netlist.specs.Listing.{listOf}
 
 -- a reply, and how many bytes of the lent buffer are the list
 abbrev pub toldLength : ℕ → ℕ → Listed
@@ -33,10 +34,10 @@ netlistOf d room = cond (lawful d) (answerOf (listOf (listsOf d)) room) (toldLen
 unfoldable pub netlistIn : Drawing → List ℕ → List ℕ
 netlistIn d old = cond (lawful d) (bufferOf (listOf (listsOf d)) old) old
 
--- a reply, and the number of loose points
+-- a reply, and the number of loose pads
 abbrev pub looseCount : ℕ → ℕ → LooseCount
 looseCount reply count = record { reply = reply; count = count }
 
--- 9 and no count, or how many points are loose: "a loose point is a joint whose count is 1"
+-- 9 and no count, or how many pads are loose (document 02, P2)
 unfoldable pub looseAnswer : Drawing → LooseCount
 looseAnswer d = cond (lawful d) (looseCount 0 (looseOf (listsOf d))) (looseCount 9 0)

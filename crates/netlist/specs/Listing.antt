@@ -4,12 +4,10 @@ use mathlib.Core.Bool.{cond}
 use mathlib.Core.List.{List, [], _∷_, _++_, map}
 use lib.Dec.{eqb}
 use lib.ListN.{length, getD}
-use Rattle.lists.specs.Lists.{keep}
 use Rattle.label.specs.Labels.{labelPart}
 use Rattle.symbol.specs.Symbols.{padsAt}
 use Rattle.sheet.specs.declared.Component.{Component}
-use Rattle.sheet.specs.declared.Joint.{Joint}
-use Rattle.sheet.specs.Drawings.{Sheet, joints}
+use Rattle.sheet.specs.Drawings.{Sheet}
 use Rattle.text.specs.Text.{decimalOf}
 use Rattle.net_numbers.specs.Netted.{netNumbers}
 
@@ -76,11 +74,3 @@ nth ns j = getD ns j 0
 -- the list of a sheet
 unfoldable pub listOf : Sheet → List ℕ
 listOf s = listWith (nth (netNumbers s)) (map entry (s .parts))
-
--- "a loose point is a joint whose count is 1"
-unfoldable pub looseIn : List Joint → ℕ
-looseIn js = length (keep (λ j. eqb (j .count) 1) js)
-
--- the loose points of a sheet
-unfoldable pub looseOf : Sheet → ℕ
-looseOf s = looseIn (joints s)

@@ -1,21 +1,24 @@
-// The wiring list of a drawing, as bytes in a lent buffer, and the number of its loose points.
+// The wiring list of a drawing, as bytes in a lent buffer, and the number of its loose pads.
 mod listing;
 
 ghost use mathlib.Core.Path.{_≡_};
 ghost use mathlib.Core.List.{map};
 ghost use Prim.Native.Nat.{_≤_};
 ghost use lib.ListN.{length};
-ghost use Rattle.sheet.specs.Drawings.{listsOf, componentRows, jointRows};
+ghost use Rattle.lists.specs.Tables.{pad};
+ghost use Rattle.sheet.specs.Drawings.{listsOf, componentRows};
 ghost use Rattle.sheet.specs.Rules.{Lawful};
 ghost use Rattle.text.specs.Text.{Put, Room};
-ghost use Rattle.netlist.specs.Listing.{entry, nth, listWith, listOf, looseIn, looseOf};
+ghost use Rattle.net_numbers.specs.Netted.{netNumbers};
+ghost use Rattle.loose_pads.specs.Counting.{looseOf};
+ghost use Rattle.netlist.specs.Listing.{entry, nth, listWith, listOf};
 ghost use Rattle.netlist.specs.Answers.{answerOf, bufferOf, netlistOf, netlistIn, looseAnswer};
 use lawful::check;
 use listing::put_lines;
+use loose_pads::count_loose;
 use net_numbers::pad_numbers;
 use sheet::Components;
 use sheet::Drawing;
-use sheet::Joints;
 
 // A reply, and how many bytes of the lent buffer are the list.
 pub struct Listed {
@@ -23,7 +26,7 @@ pub struct Listed {
     pub length: usize,
 }
 
-// A reply, and the number of loose points.
+// A reply, and the number of loose pads.
 pub struct LooseCount {
     pub reply: u8,
     pub count: u32,
@@ -38,14 +41,13 @@ fn put_list(out: &mut [u8], cs: Components, numbers: [u16; 384]) -> usize
     put_lines(out, p, cs, numbers, 1)
 }
 
-// The list in front of the lent buffer, if the buffer has room for it. A first run over a byte of our own tells the length.
-// Not one list for every drawing (one_fixed_list).
-pub fn write_list_on(d: Drawing, out: &mut [u8]) -> Listed
-    requires { ⌜ Lawful d ⌝ }
+// The list in front of the lent buffer, if the buffer has room for it, by the net numbers of the drawing's pads. A first run over a byte of
+// our own tells the length. Not one list for every drawing (one_fixed_list).
+pub fn write_list_by(d: Drawing, numbers: [u16; 384], out: &mut [u8]) -> Listed
+    requires { ⌜ Lawful d ⌝ ∗ ⌜ numbers ≡ pad 384 0 (netNumbers (listsOf d)) ⌝ }
     ensures told { λ r. ⌜ r ≡ answerOf (listOf (listsOf d)) (length (now (out .entry))) ⌝ }
     ensures written { λ _. ⌜ now (out .exit) ≡ bufferOf (listOf (listsOf d)) (now (out .entry)) ⌝ }
 {
-    let numbers = pad_numbers(d);
     let cs = d.components;
     let mut own = [0u8; 1];
     let n = put_list(&mut own, cs, numbers);
@@ -62,31 +64,21 @@ pub fn write_list_on(d: Drawing, out: &mut [u8]) -> Listed
     }
 }
 
-// How many joints have the count 1.
-fn count_loose(js: Joints) -> u32
-    requires { ⌜ js .count ≤ 1408 ⌝ }
-    ensures { λ r. ⌜ r ≡ looseIn (jointRows js) ⌝ }
+// The list of a drawing known to be lawful.
+pub fn write_list_on(d: Drawing, out: &mut [u8]) -> Listed
+    requires { ⌜ Lawful d ⌝ }
+    ensures told { λ r. ⌜ r ≡ answerOf (listOf (listsOf d)) (length (now (out .entry))) ⌝ }
+    ensures written { λ _. ⌜ now (out .exit) ≡ bufferOf (listOf (listsOf d)) (now (out .entry)) ⌝ }
 {
-    let n = js.count;
-    let mut loose: u32 = 0;
-    let mut i = 0;
-    while i < n {
-        let j = js.rows[i];
-        if j.count == 1 {
-            loose += 1;
-        }
-        i += 1;
-    }
-    loose
+    write_list_by(d, pad_numbers(d), out)
 }
 
-// The number of loose points of a drawing.
+// The number of loose pads of a drawing known to be lawful.
 pub fn loose_on(d: Drawing) -> u32
     requires { ⌜ Lawful d ⌝ }
     ensures { λ r. ⌜ r ≡ looseOf (listsOf d) ⌝ }
 {
-    let js = d.joints;
-    count_loose(js)
+    count_loose(d, pad_numbers(d))
 }
 
 // The wiring list of a lent drawing, written in front of the lent buffer; "bytes behind it stay". 9, 8 or 0. Two wrong answers that this
@@ -105,8 +97,8 @@ pub fn build_netlist(d: Drawing, out: &mut [u8]) -> Listed
     write_list_on(d, out)
 }
 
-// The number of loose points of a lent drawing: joints "whose count is 1". 9 or 0. Two wrong answers that this rules out: corners counted
-// (corners_loose), and a count for a drawing that is not lawful (loose_unlawful).
+// The number of loose pads of a lent drawing: "a pad of a contact or coil that isn't fed and is alone on its net, unless .." (document 02,
+// P2). 9 or 0. Wrong answers that this rules out: a count for a drawing that is not lawful (loose_unlawful), and those of `loose_pads`.
 pub fn loose(d: Drawing) -> LooseCount
     ensures { λ r. ⌜ r ≡ looseAnswer d ⌝ }
 {

@@ -38,6 +38,15 @@ const NINES: Tally = Tally {
     ends: 9,
 };
 
+// The reply and the count of `loose`.
+fn put_loose(d: Drawing) {
+    let loose = netlist::loose(d);
+    put(b"loose");
+    put_count(loose.reply as u32);
+    put_count(loose.count);
+    put(b"\n");
+}
+
 // The list in a lent buffer: reply, length, and the whole buffer afterwards.
 fn list(d: Drawing, out: &mut [u8]) {
     let told = netlist::build_netlist(d, out);
@@ -75,11 +84,7 @@ fn all_wrong(d: Drawing) {
     );
     let mut buffer = [b'.'; 4];
     list(d, &mut buffer);
-    let loose = netlist::loose(d);
-    put(b"loose");
-    put_count(loose.reply as u32);
-    put_count(loose.count);
-    put(b"\n");
+    put_loose(d);
 }
 
 // h 0 0 100 and a second wire, of which so many count, with joints at x1 and x2 of which so many count, by coordinates plus 6,000.
@@ -269,6 +274,7 @@ pub(crate) fn buffers() {
     let mut none = [0u8; 0];
     list(d, &mut none);
     list(empty(), &mut none);
+    put_loose(d);
     put(b"# lines in buffers of 40, 41, 44 and 45 bytes, and of none\n");
     let mut short = [b'.'; 40];
     line(d, b"n", &mut short);

@@ -89,6 +89,15 @@ fn nets() {
     run(empty(), b"n");
 }
 
+// Document 02, P2: A and B of a contact both spare, then a spare B beside a wired A; a pad with a wire that leads nowhere
+fn loose() {
+    run(
+        empty(),
+        b"p 0 0 0 -300\nv 0 -300 -100\np 1 0 0 0 K1\nn\np 2 0 -50 400 K1\nv -50 100 300\nn",
+    );
+    run(empty(), b"p 2 0 0 400 K1\nv 0 200 300\nn");
+}
+
 // Replies in document 01's order, on drawings of 512 wires and of 128 components, so that 7 would apply too
 fn order() {
     run(full_wires(), b"h 6001 9 0\nh 600 9 0\nh 600 0 9\nh 600 5 5");
@@ -112,6 +121,7 @@ fn main() {
     edits();
     traced();
     nets();
+    loose();
     order();
     calls::damaged();
     calls::outside();

@@ -34,7 +34,6 @@ board = record {
   turn-two = refl;
   pad-count = refl;
   pad-sum = refl;
-  loose = refl;
   corner-stays = refl;
   pad-stays = refl;
   under = refl;

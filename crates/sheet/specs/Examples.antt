@@ -3,9 +3,7 @@ use Prim.Native.Nat.{ℕ}
 use mathlib.Core.Bool.{true, false}
 use mathlib.Core.List.{List, [], _∷_}
 use mathlib.Core.Path.{_≡_}
-use lib.Dec.{eqb}
-use lib.ListN.{length, replicate}
-use Rattle.lists.specs.Lists.{keep}
+use lib.ListN.{replicate}
 use Rattle.symbol.specs.declared.Point.{Point}
 use Rattle.sheet.specs.declared.Wire.{Wire}
 use Rattle.sheet.specs.declared.Component.{Component}
@@ -113,8 +111,6 @@ pub record Board : Type 0 where
   -- (0,−100) has 3, all counts sum to 7
   pub pad-count : countAt (pt 6000 5900) (joints onWire) ≡ 3
   pub pad-sum : total (joints onWire) ≡ 7
-  -- `E 2`: two joints whose count is 1
-  pub loose : length (keep (λ j. eqb (j .count) 1) (joints script)) ≡ 2
   -- "A corner does not" become one wire: `h 0 100 200` on the corner, and taken away again by `d 150 0 5`
   pub corner-stays : delete (pt 6150 6000) 5 (wire (h 6000 6100 6200) corner) ≡ corner
   -- "without a pad": `d -1000 -1000 0` meets nothing, and the two wires in line stay apart at the pad

@@ -14,7 +14,8 @@ use Rattle.sheet.specs.Drawings.{listsOf}
 use Rattle.redraw.specs.declared.Edited.{Edited}
 use Rattle.redraw.specs.Calls.{refused}
 use Rattle.netlist.specs.declared.Listed.{Listed}
-use Rattle.netlist.specs.Listing.{listOf, looseOf}
+use Rattle.loose_pads.specs.Counting.{looseOf}
+use Rattle.netlist.specs.Listing.{listOf}
 use Rattle.netlist.specs.Answers.{toldLength, answerOf, bufferOf}
 use Rattle.text.specs.Text.{Put}
 use Rattle.text.proofs.Puts.{put-whole, put-none, put-length}

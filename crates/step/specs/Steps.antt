@@ -15,7 +15,8 @@ use Rattle.redraw.specs.declared.Edited.{Edited}
 use Rattle.redraw.specs.Calls.{refused, addWire, addComponent, deleteAt, rotateAt, mirrorAt}
 use Rattle.schematic.specs.Calls.{checked}
 use Rattle.text.specs.Text.{decimalOf}
-use Rattle.netlist.specs.Listing.{listOf, looseOf}
+use Rattle.loose_pads.specs.Counting.{looseOf}
+use Rattle.netlist.specs.Listing.{listOf}
 use Rattle.script.specs.declared.Command.{Command}
 use Rattle.script.specs.declared.Command.the-variants.{Horizontal, Vertical, Place, Delete, Turn, Mirror, Nets, Unreadable}
 use Rattle.script.specs.Grammar.{byte, bytes}

@@ -8,8 +8,9 @@ ghost use Rattle.script.specs.declared.Command.the-variants.{Nets};
 ghost use Rattle.step.specs.Steps;
 ghost use Rattle.step.specs.Steps.{counted, listedly, numbered};
 ghost use Rattle.step.specs.Telling.{Fitted, Replied, Tells, asksList, isCounted, replyLine, toldWith};
-use netlist::loose_on;
-use netlist::write_list_on;
+use loose_pads::count_loose;
+use net_numbers::pad_numbers;
+use netlist::write_list_by;
 use redraw::Edited;
 use redraw::refused;
 use script::Command;
@@ -92,7 +93,8 @@ fn told(e: Edited, length: usize) -> Stepped
     }
 }
 
-// The list, and then `E <loose>`, of a drawing that was not refused; 8 where the list is longer than the buffer.
+// The list, and then `E <loose>`, of a drawing that was not refused; 8 where the list is longer than the buffer. The nets are numbered once
+// for both.
 fn tell_list(e: Edited, out: &mut [u8]) -> Stepped
     requires { ⌜ (e .reply ≡ 0 → Lawful (e .drawing)) ⌝ }
     ensures { λ r. ⌜ Tells (listedly e) (now (out .entry)) (now (out .exit)) r ⌝ }
@@ -101,13 +103,14 @@ fn tell_list(e: Edited, out: &mut [u8]) -> Stepped
         return told(e, 0);
     }
     let d = e.drawing;
-    let l = write_list_on(d, out);
+    let numbers = pad_numbers(d);
+    let l = write_list_by(d, numbers, out);
     if l.reply != 0 {
         let t = e.tally;
         return told(refused(8, d, t), 0);
     }
     let mut line = [0u8; 40];
-    let n = put_numbered(&mut line, b'E', loose_on(d));
+    let n = put_numbered(&mut line, b'E', count_loose(d, numbers));
     let length = put_fitting(out, l.length, &line[..n]);
     told(e, length)
 }

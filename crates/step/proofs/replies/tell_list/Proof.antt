@@ -12,19 +12,24 @@ use Rattle.step.proofs.replies.tell_list.Tie as tie
 returns : tie.Need-returns
 returns c = told-refused (c .before .before .before .before .args .e) (c .before .before .before .before .args .out .now) (c .before .if1 .taken) (c .told .ensures)
 
-write-list-on-requires : tie.Need-write-list-on-requires
-write-list-on-requires c κs = c .before .before .before .before .before .pre (c .before .before .if1 .left)
+pad-numbers-requires : tie.Need-pad-numbers-requires
+pad-numbers-requires c κs = c .before .before .before .before .pre (c .before .if1 .left)
+
+write-list-by-requires : tie.Need-write-list-by-requires
+write-list-by-requires c κs = (c .before .before .before .before .before .before .pre (c .before .before .before .if1 .left), c .before .pad-numbers .ensures)
 
 returns-2 : tie.Need-returns-2
 returns-2 c =
     let l = c .before .before .before .before .before .before .before in
-    let i = l .before .before .before in
+    let i = l .before .before .before .before in
     let s = i .before .before .before in
     let r = list-room (s .pre (i .if1 .left)) (owned (s .args .e .drawing) _ (s .good .0 .1 .1 .1 .1 .0 .1 .1)) in
-    told-eight (s .args .e) (i .if1 .left) (s .args .out .now) (l .write-list-on .ensures .0) (l .write-list-on .ensures .1) r (c .before .before .before .if2 .taken) (c .told2 .ensures ∙ ap (λ e. toldWith e 0) (c .before .refused .ensures))
+    told-eight (s .args .e) (i .if1 .left) (s .args .out .now) (l .write-list-by .ensures .0) (l .write-list-by .ensures .1) r (c .before .before .before .if2 .taken) (c .told2 .ensures ∙ ap (λ e. toldWith e 0) (c .before .refused .ensures))
 
-loose-on-requires : tie.Need-loose-on-requires
-loose-on-requires c κs = c .before .before .before .before .before .before .before .before .before .before .before .pre (c .before .before .before .before .before .before .before .before .if1 .left)
+count-loose-requires : tie.Need-count-loose-requires
+count-loose-requires c κs =
+    let n = c .before .before .before .before .before .before .before in
+    (n .before .before .before .before .before .pre (n .before .before .if1 .left), n .pad-numbers .ensures)
 
 slice-aggregate-put-fitting : tie.Need-slice-aggregate-put-fitting
 slice-aggregate-put-fitting c = let p = c .before .before .before .put-numbered in line-short (p .ensures .0) (p .ensures .1) refl .0
@@ -33,10 +38,10 @@ put-fitting-requires : tie.Need-put-fitting-requires
 put-fitting-requires c κs =
     let p = c .before .before .before in
     let l = c .before .before .before .before .before .before .before .before .before .before in
-    let i = l .before .before .before in
+    let i = l .before .before .before .before in
     let s = i .before .before .before in
     let r = list-room (s .pre (i .if1 .left)) (owned (s .args .e .drawing) _ (s .good .0 .1 .1 .1 .1 .0 .1 .1)) in
-    let inside = list-inside (s .args .e) (i .if1 .left) (s .args .out .now) (l .write-list-on .ensures .0) (l .write-list-on .ensures .1) r (c .before .before .before .before .before .before .if2 .left) in
+    let inside = list-inside (s .args .e) (i .if1 .left) (s .args .out .now) (l .write-list-by .ensures .0) (l .write-list-by .ensures .1) r (c .before .before .before .before .before .before .if2 .left) in
     (omega (arith, inside .0), (omega (arith, inside .1), line-short (p .put-numbered .ensures .0) (p .put-numbered .ensures .1) refl .1))
 
 returns-3 : tie.Need-returns-3
@@ -44,11 +49,11 @@ returns-3 c =
     let f = c .before .before .before in
     let p = f .before .before .before .before in
     let l = p .before .before .before .before .before .before .before in
-    let i = l .before .before .before in
+    let i = l .before .before .before .before in
     let s = i .before .before .before in
     let r = list-room (s .pre (i .if1 .left)) (owned (s .args .e .drawing) _ (s .good .0 .1 .1 .1 .1 .0 .1 .1)) in
-    told-list (s .args .e) (i .if1 .left) (s .args .out .now) (l .write-list-on .ensures .0) (l .write-list-on .ensures .1) r (p .before .before .before .if2 .left)
-    (p .before .loose-on .ensures) (p .put-numbered .ensures .0) (p .put-numbered .ensures .1) refl (f .put-fitting .ensures) (c .told3 .ensures)
+    told-list (s .args .e) (i .if1 .left) (s .args .out .now) (l .write-list-by .ensures .0) (l .write-list-by .ensures .1) r (p .before .before .before .if2 .left)
+    (p .before .count-loose .ensures) (p .put-numbered .ensures .0) (p .put-numbered .ensures .1) refl (f .put-fitting .ensures) (c .told3 .ensures)
 
 pub tell-list-spec : {M : Type 1} → statement M
 tell-list-spec =
@@ -56,13 +61,14 @@ tell-list-spec =
     (tie.spec
     (λ c κs. search needs)
     returns
-    write-list-on-requires
+    pad-numbers-requires
+    write-list-by-requires
     (λ c κs. search needs)
     (λ c κs. search needs)
     (λ c. search needs)
     returns-2
     (λ c. search needs)
-    loose-on-requires
+    count-loose-requires
     (λ c κs. search needs)
     (λ c. search needs)
     slice-aggregate-put-fitting
