@@ -7,6 +7,7 @@ mod shapes;
 mod table;
 mod theirs;
 
+use oracle::list::loose_of;
 use oracle::original::rows_of;
 use oracle::script::Edit;
 use ours::{Call, Ours};
@@ -18,6 +19,8 @@ const SIZES: [usize; 4] = [64, 128, 256, 512];
 const SEED: u64 = 9;
 /// How often all is timed, in turns: a slow spell of the machine is longer than one time taken. The least counts.
 const TURNS: usize = 3;
+const LOOSE: &str = "loose, drawing known to be lawful";
+const NETS: &str = "the net numbers of all pads";
 const EDITS: [(EditKind, &str); 5] = [
     (EditKind::Wire, "wire"),
     (EditKind::Place, "place"),
@@ -47,6 +50,7 @@ fn main() {
     }
     table.print();
     table.print_times("check, plain", "check");
+    table.print_times(LOOSE, NETS);
     time_shapes();
 }
 
@@ -127,6 +131,7 @@ fn time_tables(table: &mut Table, size: usize, board: &mut Board, ours: &Ours, p
         ("merge in one pass, with the pads", Call::Merge, &[Numbered::NONE]),
         ("count the joints, with the pads", Call::CountJoints, &[Numbered::NONE]),
         ("the pads of all components", Call::Pads, &[Numbered::NONE]),
+        (NETS, Call::NetNumbers, &[Numbered::NONE]),
     ] {
         let times: Vec<_> = edits.iter().map(|edit| ours.time(call, *edit)).collect();
         table.row(name, size, &times, None);
@@ -135,9 +140,9 @@ fn time_tables(table: &mut Table, size: usize, board: &mut Board, ours: &Ours, p
 
 fn time_looks(table: &mut Table, size: usize, board: &Board, ours: &Ours) {
     let time = |call| [ours.time(call, Numbered::NONE)];
-    let loose = theirs::loose(&board.state) as u32;
+    let loose = loose_of(&rows_of(&board.state)) as u32;
     for call in [Call::LooseOn, Call::Loose] {
-        assert_eq!(ours.answer(call, Numbered::NONE), loose, "loose points");
+        assert_eq!(ours.answer(call, Numbered::NONE), loose, "loose pads");
     }
     let [plain, fast] = time_checks(ours);
     table.row("check, plain", size, &[plain], None);
@@ -145,7 +150,6 @@ fn time_looks(table: &mut Table, size: usize, board: &Board, ours: &Ours) {
     let list = [theirs::time_look(&board.state, ours.enough(), |state| state.build_netlist())];
     table.row("list, drawing known to be lawful", size, &time(Call::ListOn), Some(&list));
     table.row("list, public call", size, &time(Call::List), Some(&list));
-    let loose = [theirs::time_look(&board.state, ours.enough(), theirs::loose)];
-    table.row("loose, drawing known to be lawful", size, &time(Call::LooseOn), Some(&loose));
-    table.row("loose, public call", size, &time(Call::Loose), Some(&loose));
+    table.row(LOOSE, size, &time(Call::LooseOn), None);
+    table.row("loose, public call", size, &time(Call::Loose), None);
 }

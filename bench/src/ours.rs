@@ -42,12 +42,13 @@ pub enum Call {
     Merge = 13,
     CountJoints = 14,
     Pads = 15,
+    NetNumbers = 16,
 }
 
 impl Call {
     pub const LOOKS: [Self; 6] =
         [Self::CheckPlainly, Self::Check, Self::ListOn, Self::List, Self::LooseOn, Self::Loose];
-    pub const TABLES: [Self; 8] = [
+    pub const TABLES: [Self; 9] = [
         Self::Split,
         Self::KeepWires,
         Self::KeepComponents,
@@ -56,6 +57,7 @@ impl Call {
         Self::Merge,
         Self::CountJoints,
         Self::Pads,
+        Self::NetNumbers,
     ];
 }
 

@@ -81,7 +81,7 @@ impl Table {
     pub fn print_times(&self, slow: &str, fast: &str) {
         let row = |name| self.rows.iter().find(|row| row.name == name).expect("a call that was timed");
         let both = row(slow).cells.iter().zip(&row(fast).cells);
-        let times = both.map(|(slow, fast)| format!("{:.0} at {}", slow.ours.median / fast.ours.median, slow.size));
+        let times = both.map(|(slow, fast)| format!("{} at {}", shown(slow.ours.median / fast.ours.median), slow.size));
         println!("\n{slow}, in times of {fast}: {}", times.collect::<Vec<_>>().join(", "));
     }
 }

@@ -3,7 +3,7 @@
 use crate::clock::{timed, timed_nothing};
 use batches::{time_of_one, FEWEST};
 use oracle::orientation::numbered;
-use oracle::original::{everywhere, kind_numbered};
+use oracle::original::kind_numbered;
 use oracle::schematic::{Component, State, WireH, WireV};
 use oracle::script::{Edit, Pointer};
 use serde::RoundTrip;
@@ -81,9 +81,4 @@ fn edit_copies(state: &State, asked: &Prepared) -> f64 {
 /// Nanoseconds of one look at the state, by batches that last at least so long.
 pub fn time_look<T>(state: &State, enough: f64, look: impl Fn(&State) -> T) -> f64 {
     time_of_one(enough, |calls| timed(|| (0..calls).for_each(|_| drop(black_box(look(black_box(state)))))).0)
-}
-
-/// Points with the count 1; the Rust has no such call.
-pub fn loose(state: &State) -> usize {
-    state.junctions_iter(&everywhere()).filter(|(_, count)| *count == 1).count()
 }

@@ -24,6 +24,9 @@ pub trait Drawing {
 
     /// The R and S lines of document 01's list.
     fn list(&self) -> Vec<u8>;
+
+    /// How many pads are loose (document 02, P2). The Rust tells nothing of it.
+    fn loose(&self) -> usize;
 }
 
 /// Which program's output is printed.
@@ -47,7 +50,8 @@ pub fn run(drawing: &mut dyn Drawing, script: &[u8], form: Form) -> Vec<u8> {
 pub fn perform(drawing: &mut dyn Drawing, command: &Command, form: Form, out: &mut Vec<u8>) {
     match command {
         Command::List => {
-            print_list(&drawing.list(), &drawing.rows(), out);
+            out.extend(drawing.list());
+            put_line(out, b"E", &[drawing.loose() as i32]);
             if form == Form::Rows {
                 out.extend_from_slice(b".\n");
             }
@@ -66,11 +70,6 @@ pub fn perform(drawing: &mut dyn Drawing, command: &Command, form: Form, out: &m
             }
         }
     }
-}
-
-pub fn print_list(list: &[u8], rows: &Rows, out: &mut Vec<u8>) {
-    out.extend_from_slice(list);
-    put_line(out, b"E", &[rows.loose() as i32]);
 }
 
 pub fn print_answer(edit: &Edit, answer: Answer, out: &mut Vec<u8>) {

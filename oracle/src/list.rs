@@ -1,4 +1,4 @@
-//! Document 01's list by a plain search: from a pad along wires to every joint of its net.
+//! Document 01's list by a plain search, from a pad along wires to every joint of its net; and the loose pads of document 02.
 
 use crate::orientation::numbered;
 use crate::original::kind_numbered;
@@ -66,4 +66,21 @@ pub fn list_of(rows: &Rows) -> Vec<u8> {
         out += &format!("S {label}.A N{c} N{a}\nS {label}.B N{c} N{b}\n");
     }
     out.into_bytes()
+}
+
+/// The number of loose pads (document 02, P2), by the net numbers: a pad is spare where its number isn't 0 and no other pad has
+/// it. A and B of a contact are loose both or neither: each is excused by the other one.
+pub fn loose_of(rows: &Rows) -> usize {
+    let nets = nets_of_pads(rows);
+    let mut pads_on: HashMap<usize, usize> = HashMap::new();
+    for &net in nets.iter().flatten() {
+        *pads_on.entry(net).or_default() += 1;
+    }
+    let spare = |net: usize| net != 0 && pads_on[&net] == 1;
+    let loose = |(part, nets): (&Component, &Vec<usize>)| match (part.kind, &nets[..]) {
+        (1, &[c, a, b]) => usize::from(spare(c)) + if spare(a) && spare(b) { 2 } else { 0 },
+        (2, &[net]) => usize::from(spare(net)),
+        _ => 0,
+    };
+    rows.components.iter().zip(&nets).map(loose).sum()
 }

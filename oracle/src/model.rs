@@ -1,6 +1,7 @@
-//! Document 01 once more, from its words alone and with nothing of the Rust: a drawing is a set of wires and a set of
+//! Document 01 once more, and what document 02 puts in its place, from their words alone and with nothing of the Rust: a drawing is a set of wires and a set of
 //! components, joints are counted afresh, and every edit leaves out, splits, puts in and merges.
 
+mod loose;
 mod nets;
 mod symbols;
 mod wires;
@@ -49,6 +50,10 @@ impl Drawing for Model {
 
     fn list(&self) -> Vec<u8> {
         nets::list(&self.rows())
+    }
+
+    fn loose(&self) -> usize {
+        loose::loose(&self.rows())
     }
 }
 

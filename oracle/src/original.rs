@@ -1,7 +1,7 @@
 //! The Rust's `State` behind document 01's refusals.
 
 use crate::drawing::{Answer, Drawing};
-use crate::list::list_of;
+use crate::list::{list_of, loose_of};
 use crate::orientation::{number_of, numbered};
 use crate::refusal::{refusal, MOST_COMPONENTS, MOST_WIRES};
 use crate::rows::{self, Rows};
@@ -77,6 +77,10 @@ impl Drawing for Original {
 
     fn list(&self) -> Vec<u8> {
         list_of(&self.rows())
+    }
+
+    fn loose(&self) -> usize {
+        loose_of(&self.rows())
     }
 }
 

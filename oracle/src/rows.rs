@@ -60,11 +60,6 @@ impl Rows {
         self.joints.iter().map(|joint| joint.count).sum()
     }
 
-    /// A loose point is a joint whose count is 1.
-    pub fn loose(&self) -> usize {
-        self.joints.iter().filter(|joint| joint.count == 1).count()
-    }
-
     /// The tally and all rows, a line each, then the line that ends a dump.
     pub fn print(&self, out: &mut Vec<u8>) {
         let tally = [self.wires.len(), self.joints.len(), self.components.len(), self.ends() as usize];

@@ -1,4 +1,4 @@
-//! Document 01's examples through the Rust, and through the model.
+//! Document 01's examples through the Rust, and through the model; and the drawings of docs/SCRIPT.md for document 02's loose pads.
 
 use oracle::drawing::{run, Drawing, Form};
 use oracle::model::Model;
@@ -92,6 +92,17 @@ fn the_whole_output() {
 }
 
 #[test]
+fn loose_pads_are_counted_by_nets() {
+    let loose = |script: &str| printed(&format!("{script}n\n")).lines().last().map(str::to_string).unwrap();
+    let contact = "p 0 0 0 -300\nv 0 -300 -100\np 1 0 0 0 K1\n";
+    assert_eq!(loose(&format!("{contact}p 2 0 -50 400 K1\nv -50 100 300\n")), "E 0", "a spare B beside a wired A");
+    assert_eq!(loose(contact), "E 2", "A and B both spare");
+    assert_eq!(loose("p 2 0 0 400 K1\nv 0 200 300\n"), "E 1", "a pad with a wire that leads nowhere");
+    assert_eq!(loose("h 0 0 100\n"), "E 0", "wire ends without a pad");
+    assert_eq!(loose("p 1 0 0 0 K1\nv 50 100 300\nh 300 0 50\n"), "E 3", "all alone, one with wires that lead nowhere");
+}
+
+#[test]
 fn refusals_in_order() {
     let script = "p 3 0 9999 0 \x7f\np 1 8 0 0\np 1 0 5801 0 \x7f\np 1 0 5800 0 K K\nh 6001 6 5\nd 6001 0 1001\nr 0 0 1001\nm 0 0 -1\n";
     assert_eq!(printed(script), "A 4\nA 4\nA 1\nA 5\nA 1\nA 1\nA 3 0 0\nA 3 0 0\n");
@@ -150,6 +161,6 @@ fn rows_are_printed_behind_each_line() {
     let printed = run(&mut drawing, b"h 0 0 9\n\np 1 3 700 0\nr 0 0 5\nn\n", Form::Rows);
     let wire = "T 1 2 0 2\nW h 0 0 9\nJ 0 0 1\nJ 9 0 1\n.\n";
     let both = "T 1 5 1 5\nW h 0 0 9\nJ 800 -50 1\nJ 0 0 1\nJ 9 0 1\nJ 600 0 1\nJ 800 50 1\nC 1 3 700 0 \n.\n";
-    let expected = format!("A 0\n{wire}A 10\n{wire}A 0\n{both}A 0 0 0\n{both}S .A N1 N2\nS .B N1 N3\nE 5\n.\n");
+    let expected = format!("A 0\n{wire}A 10\n{wire}A 0\n{both}A 0 0 0\n{both}S .A N1 N2\nS .B N1 N3\nE 3\n.\n");
     assert_eq!(String::from_utf8(printed).unwrap(), expected);
 }

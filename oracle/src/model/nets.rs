@@ -31,7 +31,7 @@ pub fn list(rows: &Rows) -> Vec<u8> {
 }
 
 /// Colour 0 at each power pad, another one at each other joint, spread along the wires.
-fn colours(rows: &Rows) -> HashMap<Point, usize> {
+pub fn colours(rows: &Rows) -> HashMap<Point, usize> {
     let mut colours: HashMap<Point, usize> =
         rows.joints.iter().enumerate().map(|(row, joint)| ((joint.y, joint.x), row + 1)).collect();
     for part in rows.components.iter().filter(|part| part.kind == 0) {
