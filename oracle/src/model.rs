@@ -1,5 +1,5 @@
-//! Document 01 once more, and what document 02 puts in its place, from their words alone and with nothing of the Rust: a drawing is a set of wires and a set of
-//! components, joints are counted afresh, and every edit leaves out, splits, puts in and merges.
+//! Document 01 once more, and what document 02 puts in its place, from their words alone and with nothing of the Rust: a drawing
+//! is a set of wires and a set of components, joints are counted afresh, and every edit leaves out, splits, puts in and merges.
 
 mod loose;
 mod nets;
