@@ -30,10 +30,11 @@ use Rattle.loose_pads.specs.Counting.{occurs, spare, isLoose, numbersFrom, loos
 use Rattle.text.specs.Text.{digitsIn, decimalOf, signedOf}
 use Rattle.script.specs.Reading as Reading
 use Rattle.dump.specs.Rows as Rows
+use Rattle.telling.specs.Told as Told
 use Rattle.step.specs.Steps as Steps
 use Rattle.board.specs.Calling as Calling
 use Rattle.board.specs.Table.{All, none, more, table}
 
 pub board : All table
-unfolding any all pairs links keep insert gather pad span biased biasedWithin sizeOf padded labelOf heldLabel labelOk labelPart same rises ends inside on meets first splitOne splitAt splitAll heldApart joins glue mergeBy merge kept run rest standing lay layWire drawWire bump jointsOf number total countAt box pads touches endsAt joints drawn tallyOf wire placeOne remove meetsWire meetsPart delete placeAll turn hits turnRight mirror blankWire blankComponent blankJoint wireFits componentFits rooms blanks limits check1 share check2 free check3 bare check4 touchingOne touchingFrom check6 upward check7 fromRule5 checkOf roomy pointReply wireReply pointerReply symbolReply componentReply Calls.edited Calls.addWire Calls.addComponent Calls.pointed Calls.deleteAt Calls.rotateAt Calls.mirrorAt checked digitsIn decimalOf signedOf Reading.digitsOf Reading.wholeOf Reading.signedNumeral Reading.numeralOf Reading.fieldOf Reading.threeOf Reading.lettered Reading.threeLine Reading.labelled Reading.placeLine Reading.lineOf Reading.commandOf Rows.countWord Rows.coordinateWord Rows.labelWord Rows.tallyLine Rows.wireLine Rows.jointLine Rows.componentLine Rows.rowsOf Steps.choiceOf Steps.editOf Steps.numbered Steps.counted Steps.stepOf Steps.inRoom Calling.printedBy netWord pinWord relay switch entryLines linesIn kindLines listWith listOf padNames occurs spare isLoose numbersFrom loosePads looseOf merged netFrom firstNet netOf rank meet numberFrom numbering numbersOf numberOfJoint netNumbers
+unfolding any all pairs links keep insert gather pad span biased biasedWithin sizeOf padded labelOf heldLabel labelOk labelPart same rises ends inside on meets first splitOne splitAt splitAll heldApart joins glue mergeBy merge kept run rest standing lay layWire drawWire bump jointsOf number total countAt box pads touches endsAt joints drawn tallyOf wire placeOne remove meetsWire meetsPart delete placeAll turn hits turnRight mirror blankWire blankComponent blankJoint wireFits componentFits rooms blanks limits check1 share check2 free check3 bare check4 touchingOne touchingFrom check6 upward check7 fromRule5 checkOf roomy pointReply wireReply pointerReply symbolReply componentReply Calls.edited Calls.addWire Calls.addComponent Calls.pointed Calls.deleteAt Calls.rotateAt Calls.mirrorAt checked digitsIn decimalOf signedOf Reading.digitsOf Reading.wholeOf Reading.signedNumeral Reading.numeralOf Reading.fieldOf Reading.threeOf Reading.lettered Reading.threeLine Reading.labelled Reading.placeLine Reading.lineOf Reading.commandOf Rows.countWord Rows.coordinateWord Rows.labelWord Rows.tallyLine Rows.wireLine Rows.jointLine Rows.componentLine Rows.rowsOf Steps.choiceOf Steps.editOf Told.numbered Told.counted Steps.stepOf Told.inRoom Calling.printedBy netWord pinWord relay switch entryLines linesIn kindLines listWith listOf padNames occurs spare isLoose numbersFrom loosePads looseOf merged netFrom firstNet netOf rank meet numberFrom numbering numbersOf numberOfJoint netNumbers
 board = more refl (more refl (more refl (more refl (more refl (more refl (more refl (more refl (more refl (more refl (more refl (more refl none)))))))))))

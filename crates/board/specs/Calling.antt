@@ -1,5 +1,5 @@
 -- A script line as a call on a lent drawing and tally, and what is then printed: what the call prints, and behind an edit the tally and
--- every row. The call is the contract's definition, `stepOf` in a lent buffer (crate `step`).
+-- every row. The call is the contract's definition, `stepOf` in a lent buffer (crate `line_call`).
 use Prim.Native.Nat.{ℕ}
 use Prim.Native.String.{String}
 use mathlib.Core.Bool.{cond}
@@ -9,8 +9,9 @@ use Rattle.sheet.specs.declared.Tally.{Tally}
 use Rattle.sheet.specs.Drawings.{emptySheet, drawn}
 use Rattle.script.specs.Grammar.{bytes}
 use Rattle.script.specs.Reading.{commandOf}
-use Rattle.step.specs.Steps.{After, printed, stepOf, inRoom}
-use Rattle.step.specs.Telling.{asksList}
+use Rattle.telling.specs.Told.{After, printed, inRoom}
+use Rattle.step.specs.Steps.{stepOf}
+use Rattle.telling.specs.Fitting.{asksList}
 use Rattle.dump.specs.Rows.{rowsOf}
 
 -- a line called with a buffer of 8,192 bytes

@@ -21,6 +21,7 @@ use lending::tally_after_delete;
 use lending::tally_after_mirror;
 use lending::tally_after_turn;
 use lending::tally_after_wire;
+use line_call::step;
 use schematic::add_component;
 use schematic::add_wire;
 use schematic::delete_at_point;
@@ -29,7 +30,6 @@ use schematic::rotate_component_at_point;
 use sheet::Drawing;
 use sheet::Tally;
 use sheet::Wire;
-use step::step;
 
 const NINES: Tally = Tally {
     wires: 9,

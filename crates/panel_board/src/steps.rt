@@ -4,11 +4,11 @@ ghost use lib.ListN.{length};
 use crate::print::put;
 use crate::print::put_drawing;
 use crate::print::put_front;
+use line_call::step;
 use sheet::Drawing;
 use sheet::Tally;
 use step::NO_TALLY;
-use step::Stepped;
-use step::step;
+use telling::Stepped;
 
 // A line: what the call prints, and behind an edit the tally and all rows.
 fn answer(d: Drawing, t: Tally, line: &[u8]) -> Stepped {

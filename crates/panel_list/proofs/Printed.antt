@@ -7,10 +7,11 @@ use lib.ListN.{length, take, drop, length-append, length-drop}
 use lib.Seq.{take-all, length-take-le, take-append-add, take-at}
 use Rattle.sheet.specs.declared.Drawing.{Drawing}
 use Rattle.sheet.specs.Rules.{Lawful}
-use Rattle.step.specs.declared.replies.Stepped.{Stepped}
-use Rattle.step.specs.Steps.{After, Answers, printed, stepOf}
+use Rattle.telling.specs.declared.Stepped.{Stepped}
+use Rattle.telling.specs.Told.{After, Answers, printed}
+use Rattle.step.specs.Steps.{stepOf}
 use Rattle.step.specs.Scripts.{noTally, progress}
-use Rattle.step.proofs.Fitting.{answer-fits}
+use Rattle.telling.proofs.Telling.{answer-fits}
 use Rattle.panel_list.specs.Printing.{Prints}
 
 -- as long as the part of the buffer behind an index, as it is lent

@@ -11,7 +11,8 @@ use Rattle.sheet.specs.Drawings.{emptySheet, drawn}
 use Rattle.sheet.specs.Rules.{Lawful}
 use Rattle.lines.specs.Runs.{ran, next, chunks, joined, finish}
 use Rattle.lines.proofs.Runs.{chunks-more}
-use Rattle.step.specs.Steps.{printed, stepOf}
+use Rattle.telling.specs.Told.{printed}
+use Rattle.step.specs.Steps.{stepOf}
 use Rattle.step.specs.Scripts.{Progress, progress, noTally, start, andThen}
 use Rattle.streams.specs.declared.output.Output.{Output}
 use Rattle.panel_list.specs.declared.Run.{Run}

@@ -8,7 +8,8 @@ use Rattle.lines.specs.Lines.{newline}
 use Rattle.lines.specs.Chunks.{hold}
 use Rattle.lines.specs.Runs.{Ran, ran, throughChunk, finish}
 use Rattle.sheet.specs.declared.Drawing.{Drawing}
-use Rattle.step.specs.Steps.{printed, stepOf}
+use Rattle.telling.specs.Told.{printed}
+use Rattle.step.specs.Steps.{stepOf}
 use Rattle.step.specs.Scripts.{Progress, progress, noTally, redrawn, andThen}
 
 -- with `before` in front

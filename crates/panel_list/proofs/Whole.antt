@@ -11,7 +11,8 @@ use Rattle.script.specs.Reading.{commandOf}
 use Rattle.script.proofs.Meaning.{only-81}
 use Rattle.lines.specs.Runs.{ran, joined, chunks, finish}
 use Rattle.lines.proofs.Runs.{in-chunks}
-use Rattle.step.specs.Steps.{After, printed, plainly, editOf, told, stepOf}
+use Rattle.telling.specs.Told.{After, printed, plainly, told}
+use Rattle.step.specs.Steps.{editOf, stepOf}
 use Rattle.step.specs.Scripts.{Progress, progress, noTally, start, andThen, scriptOf}
 
 step-unreadable : (d : Drawing) (l : List ℕ) → commandOf l ≡ Unreadable → stepOf d noTally l ≡ plainly (refused 10 d noTally)

@@ -12,11 +12,12 @@ use Rattle.text.specs.Text.{Put}
 use Rattle.text.proofs.Puts.{put-fits}
 use Rattle.sheet.specs.Rules.{Lawful}
 use Rattle.redraw.specs.declared.Edited.{Edited}
-use Rattle.step.specs.declared.replies.Stepped.{Stepped}
-use Rattle.step.specs.Steps.{After, printed, Answers, stepOf}
-use Rattle.step.specs.Telling.{asksList}
+use Rattle.telling.specs.declared.Stepped.{Stepped}
+use Rattle.telling.specs.Told.{After, printed, Answers}
+use Rattle.step.specs.Steps.{stepOf}
+use Rattle.telling.specs.Fitting.{asksList}
 use Rattle.step.specs.Scripts.{noTally, redrawn}
-use Rattle.step.proofs.Fitting.{answer-fits}
+use Rattle.telling.proofs.Telling.{answer-fits}
 use Rattle.dump.specs.Rows.{Puts}
 use Rattle.panel_rows.specs.declared.rows.Printed.{Printed}
 use Rattle.panel_rows.specs.Printing.{behind, rowsStep, PrintsRows}

@@ -9,8 +9,9 @@ use Rattle.sheet.specs.Drawings.{listsOf, tallyOf}
 use Rattle.sheet.specs.Rules.{Lawful}
 use Rattle.script.specs.Reading.{commandOf}
 use Rattle.lines.specs.Runs.{ran, throughChunk}
-use Rattle.step.specs.Steps.{printed, stepOf}
-use Rattle.step.specs.Telling.{asksList}
+use Rattle.telling.specs.Told.{printed}
+use Rattle.step.specs.Steps.{stepOf}
+use Rattle.telling.specs.Fitting.{asksList}
 use Rattle.step.specs.Scripts.{Progress, progress, noTally, redrawn}
 use Rattle.dump.specs.Rows.{rowsOf}
 use Rattle.panel_rows.specs.declared.rows.Printed.{Printed}

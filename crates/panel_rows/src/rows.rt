@@ -9,8 +9,8 @@ use joints::tally::tally;
 use script::read_line;
 use sheet::Drawing;
 use step::NO_TALLY;
-use step::asks_list;
 use step::step_on;
+use telling::asks_list;
 use text::put_byte;
 
 // The drawing after a line, and how many bytes of the lent buffer the line printed.

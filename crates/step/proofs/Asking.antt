@@ -1,10 +1,8 @@
--- The edit that a command asks for: on a lawful drawing what the code makes of its numbers, which it hands on as bits; 9 on any other; and 10
--- for a line that was not read.
-use mathlib.Core.Path.{_≡_, refl, sym, ap, subst, _∙_}
+-- The edit that a command asks for, on a lawful drawing: what the code makes of its numbers, which it hands on as bits.
+use mathlib.Core.Path.{_≡_, refl, sym, ap, _∙_}
 use mathlib.Core.Bool.{true, false}
 use mathlib.Core.List.{List}
 use Prim.Native.Nat.{ℕ, _-_, _<_, _^_}
-use lib.Dec.{T}
 use lib.IntN.{ℤ}
 use lib.ListN.{length, take, drop}
 use lib.Signed.{mag}
@@ -15,17 +13,15 @@ use Rattle.label.specs.Labels.{labelOf}
 use Rattle.sheet.specs.declared.Drawing.{Drawing}
 use Rattle.sheet.specs.declared.Tally.{Tally}
 use Rattle.sheet.specs.Rules.{Lawful}
-use Rattle.rules.specs.declared.Checked.{Checked}
-use Rattle.rules.specs.Check.{checkOf}
 use Rattle.redraw.specs.declared.Edited.{Edited}
-use Rattle.redraw.specs.Calls.{refused, addWire, addComponent, deleteAt, rotateAt, mirrorAt}
+use Rattle.redraw.specs.Calls.{addWire, addComponent, deleteAt, rotateAt, mirrorAt}
 use Rattle.schematic.specs.Calls.{checked}
-use Rattle.schematic.proofs.Checking.{unlawful-refused, lawful-passes}
+use Rattle.schematic.proofs.Checking.{lawful-passes}
 use Rattle.script.specs.declared.Command.{Command}
-use Rattle.script.specs.declared.Command.the-variants.{Horizontal, Vertical, Place, Delete, Turn, Mirror, Nets, Unreadable}
+use Rattle.script.specs.declared.Command.the-variants.{Horizontal, Vertical, Place, Delete, Turn, Mirror, Nets}
 use Rattle.script.specs.Reading.{commandOf}
-use Rattle.step.specs.Steps.{choiceOf, editOf, unedited, told, stepOf}
-use Rattle.step.specs.Telling.{isReadable}
+use Rattle.step.specs.Steps.{choiceOf, editOf, unedited, stepOf}
+use Rattle.telling.specs.Told.{told}
 use Rattle.step.proofs.Choosing.{line-placed}
 
 -- what each command of three numbers asks of a drawing
@@ -66,32 +62,6 @@ module _ {d : Drawing} (l : Lawful d) (t : Tally) (line : List ℕ) {command : C
   pub by-nets : command ≡ Nets → e ≡ unedited d t → e ≡ editOf d t line command
   unfolding editOf
   by-nets is-k is-e = is-e ∙ lawful-passes l t (unedited d t) ∙ ap (editOf d t line) (sym is-k)
-
-module _ (d : Drawing) (t : Tally) (line : List ℕ) where
-  -- 10 before anything else is looked at
-  pub unread : (k : Command) → isReadable k ≡ false → refused 10 d t ≡ editOf d t line k
-  unfolding editOf
-  unread (Horizontal y x1 x2) q = absurd (subst T q tt)
-  unread (Vertical x y1 y2) q = absurd (subst T q tt)
-  unread (Place kind orient x y at) q = absurd (subst T q tt)
-  unread (Delete x y size) q = absurd (subst T q tt)
-  unread (Turn x y size) q = absurd (subst T q tt)
-  unread (Mirror x y size) q = absurd (subst T q tt)
-  unread Nets q = absurd (subst T q tt)
-  unread Unreadable q = refl
-
-  -- 9 before the numbers are looked at
-  module _ {c : Checked} (q : c ≡ checkOf d) (f : c .rule ≡ 0 → ⊥) where
-    pub unlawful : (k : Command) → isReadable k ≡ true → refused 9 d t ≡ editOf d t line k
-    unfolding editOf
-    unlawful (Horizontal y x1 x2) r = unlawful-refused d q t _ f
-    unlawful (Vertical x y1 y2) r = unlawful-refused d q t _ f
-    unlawful (Place kind orient x y at) r = unlawful-refused d q t _ f
-    unlawful (Delete x y size) r = unlawful-refused d q t _ f
-    unlawful (Turn x y size) r = unlawful-refused d q t _ f
-    unlawful (Mirror x y size) r = unlawful-refused d q t _ f
-    unlawful Nets r = unlawful-refused d q t _ f
-    unlawful Unreadable r = absurd (subst T (sym r) tt)
 
 -- what is told of a line's command and of the edit that came of it is the line's step
 pub stepped : (d : Drawing) (t : Tally) (line : List ℕ) {k : Command} {e : Edited} → k ≡ commandOf line → e ≡ editOf d t line k → told k e ≡ stepOf d t line

@@ -1,12 +1,9 @@
 -- The drawing of no wires and no components is the empty drawing, and it is lawful.
-use mathlib.Core.Path.{_≡_, sym, ap, ap₂, subst, _∙_}
-use mathlib.Core.List.{List, [], List·Memᴰ·not-nil as ∈-nil}
-use Prim.Native.Nat.{ℕ}
+use mathlib.Core.Path.{_≡_, sym, ap, subst, _∙_}
+use mathlib.Core.List.{[], List·Memᴰ·not-nil as ∈-nil}
 use native.Mathlib.Omega.{arith}
 use Rattle.lists.specs.Lists.{_∈_}
 use Rattle.lists.proofs.Tables.{holds-list, holds-self, holds-count}
-use Rattle.sheet.specs.declared.Component.{Component}
-use Rattle.sheet.specs.declared.Wire.{Wire}
 use Rattle.sheet.specs.declared.Wires.{Wires}
 use Rattle.sheet.specs.declared.Components.{Components}
 use Rattle.sheet.specs.declared.Drawing.{Drawing}

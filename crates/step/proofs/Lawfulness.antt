@@ -1,6 +1,5 @@
 -- A line leaves a lawful drawing lawful: `edit-lawful`, `step-lawful`.
 use mathlib.Core.Path.{_≡_, refl, sym, subst}
-use mathlib.Core.Bool.{true, false}
 use mathlib.Core.Logic.{⊎-elim}
 use mathlib.Core.List.{List}
 use Prim.Native.Nat.{ℕ}
@@ -15,7 +14,8 @@ use Rattle.schematic.proofs.Checking.{lawful-passes}
 use Rattle.script.specs.declared.Command.{Command}
 use Rattle.script.specs.declared.Command.the-variants.{Horizontal, Vertical, Place, Delete, Turn, Mirror, Nets, Unreadable}
 use Rattle.script.specs.Reading.{commandOf}
-use Rattle.step.specs.Steps.{editOf, unedited, After, told, stepOf}
+use Rattle.step.specs.Steps.{editOf, unedited, stepOf}
+use Rattle.telling.specs.Told.{After, told}
 use Rattle.step.proofs.Kept.{Kept, wire-kept, component-kept, delete-kept, rotate-kept, mirror-kept}
 
 module _ {d : Drawing} (l : Lawful d) (t : Tally) where

@@ -2,10 +2,8 @@
 pub mod Choosing
 pub mod Outside
 pub mod Emptiness
-pub mod Telling
 pub mod Kept
 pub mod Lawfulness
 mod Asking
-mod Commands
-mod Stepping
+pub mod Stepping
 pub mod Fitting

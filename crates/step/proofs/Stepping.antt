@@ -1,23 +1,23 @@
 -- One line: what is told of the edit that came of it is the line's step, and a lawful drawing stays lawful.
-use mathlib.Core.Path.{_≡_, sym, ap, subst, _∙_}
+use mathlib.Core.Path.{_≡_, sym, subst}
 use mathlib.Core.List.{List}
 use Prim.Native.Nat.{ℕ}
-use native.Mathlib.Omega.{arith}
 use lib.ListN.{length}
 use Rattle.sheet.specs.declared.Drawing.{Drawing}
 use Rattle.sheet.specs.declared.Tally.{Tally}
 use Rattle.sheet.specs.Rules.{Lawful}
 use Rattle.redraw.specs.declared.Edited.{Edited}
-use Rattle.redraw.specs.Calls.{refused}
 use Rattle.script.specs.declared.Command.{Command}
 use Rattle.script.specs.declared.Command.the-variants.{Nets}
 use Rattle.script.specs.Reading.{commandOf}
-use Rattle.step.specs.declared.replies.Stepped.{Stepped}
-use Rattle.step.specs.Steps.{editOf, told, stepOf, inRoom, Answers}
-use Rattle.step.specs.Telling.{Tells, Steps}
+use Rattle.telling.specs.declared.Stepped.{Stepped}
+use Rattle.step.specs.Steps.{editOf, stepOf}
+use Rattle.telling.specs.Told.{told, inRoom, Answers}
+use Rattle.telling.specs.Fitting.{Tells}
+use Rattle.step.specs.Stepping.{Steps}
 use Rattle.step.proofs.Asking.{stepped}
 use Rattle.step.proofs.Lawfulness.{edit-lawful, step-lawful}
-use Rattle.step.proofs.Telling.{tells-as, told-drawing}
+use Rattle.telling.proofs.Telling.{tells-as, told-drawing}
 
 module _ (d : Drawing) (t : Tally) (line : List ℕ) {k : Command} {e : Edited} where
   -- of any drawing
@@ -32,7 +32,3 @@ module _ (d : Drawing) (t : Tally) (line : List ℕ) {k : Command} {e : Edited} 
 
   pub lawful-told : Lawful d → e ≡ editOf d t line k → k ≡ Nets → e .reply ≡ 0 → Lawful (e .drawing)
   lawful-told l is-e _ _ = subst (λ (x : Edited). Lawful (x .drawing)) (sym is-e) (edit-lawful l t line k)
-
--- a refusal prints no list
-pub refused-told : {n : ℕ} {d : Drawing} {t : Tally} {k : Command} {e : Edited} → e ≡ refused n d t → (n ≡ 0 → ⊥) → k ≡ Nets → e .reply ≡ 0 → Lawful (e .drawing)
-refused-told is f _ z = absurd (f (sym (ap (λ (x : Edited). x .reply) is) ∙ z))

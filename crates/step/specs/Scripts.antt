@@ -6,7 +6,8 @@ use Rattle.sheet.specs.declared.Tally.{Tally}
 use Rattle.sheet.specs.Drawings.{emptySheet, drawn}
 use Rattle.lines.specs.Lines.{linesOf}
 use Rattle.lines.specs.Runs.{through}
-use Rattle.step.specs.Steps.{printed, stepOf}
+use Rattle.telling.specs.Told.{printed}
+use Rattle.step.specs.Steps.{stepOf}
 
 -- no line prints the tally
 abbrev pub noTally : Tally

@@ -1,19 +1,14 @@
-// One line of a script: what it does to a lent drawing, and what it prints into a lent buffer.
-mod replies;
-
+// One line of a script: what it does to a drawing known to be lawful, and what it prints into a lent buffer.
 ghost use mathlib.Core.Path.{_≡_};
-ghost use Prim.Native.Nat.{_≤_};
-ghost use lib.ListN.{length};
 ghost use Rattle.sheet.specs.Drawings.{emptySheet};
 ghost use Rattle.sheet.specs.Drawings;
 ghost use Rattle.sheet.specs.Rules.{Lawful};
 ghost use Rattle.redraw.specs.Calls.{addComponent};
 ghost use Rattle.label.specs.Labels.{labelOf};
-ghost use Rattle.step.specs.Steps.{choiceOf, stepOf, inRoom, Answers};
-ghost use Rattle.step.specs.Telling.{isReadable, Steps};
+ghost use Rattle.step.specs.Steps.{choiceOf};
+ghost use Rattle.step.specs.Stepping.{Steps};
 use joints::drawn;
 use label::label_of;
-use lawful::check;
 use parts::no_parts;
 use redraw::Edited;
 use redraw::component::add_component_on;
@@ -22,13 +17,12 @@ use redraw::pointer::mirror_on;
 use redraw::pointer::rotate_on;
 use redraw::refused;
 use redraw::wire::add_wire_on;
-pub use replies::Stepped;
-pub use replies::asks_list;
-use replies::tell;
 use script::Command;
 use script::read_line;
 use sheet::Drawing;
 use sheet::Tally;
+use telling::Stepped;
+use telling::tell;
 use wires::no_wires;
 
 // For callers that ask for no tally: no line prints it.
@@ -69,16 +63,6 @@ fn place(d: Drawing, kind: i32, orient: i32, x: i32, y: i32, label: &[u8], t: Ta
     add_component_on(d, choice(kind), choice(orient), x, y, label_of(label), t)
 }
 
-// Whether a line was read.
-fn readable(command: Command) -> bool
-    ensures { λ r. ⌜ r ≡ isReadable command ⌝ }
-{
-    match command {
-        Command::Unreadable => false,
-        _ => true,
-    }
-}
-
 // What a line does to a drawing known to be lawful, and what it prints; `n` edits nothing. 8,192 bytes always suffice: a list has at most
 // 7,936.
 pub fn step_on(d: Drawing, line: &[u8], t: Tally, out: &mut [u8]) -> Stepped
@@ -110,20 +94,4 @@ pub fn step_on(d: Drawing, line: &[u8], t: Tally, out: &mut [u8]) -> Stepped
         Command::Nets => tell(refused(0, d, t), command, out),
         Command::Unreadable => tell(refused(10, d, t), command, out),
     }
-}
-
-// A script line of a lent drawing: 10, 9, then as the edit that it asks for, for `n` 8 last. Two wrong answers that this rules out:
-// 9 told of an unreadable line, and a line made on a drawing that is not lawful (must-fail/ has more).
-pub fn step(d: Drawing, line: &[u8], t: Tally, out: &mut [u8]) -> Stepped
-    ensures { λ r. ⌜ Answers (inRoom (length (now (out .entry))) (stepOf d t (now (line .entry)))) (now (out .entry)) (now (out .exit)) r ⌝ }
-{
-    let command = read_line(line);
-    if readable(command) {
-        let k = check(d);
-        if k.rule != 0 {
-            return tell(refused(9, d, t), command, out);
-        }
-        return step_on(d, line, t, out);
-    }
-    tell(refused(10, d, t), command, out)
 }

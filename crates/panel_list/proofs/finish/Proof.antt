@@ -2,7 +2,8 @@
 use mathlib.Core.Path.{sym}
 use native.Mathlib.Omega.{arith}
 use lib.Seq.{length-take-le}
-use Rattle.step.proofs.Fitting.{answer-fits, whole-answer}
+use Rattle.telling.proofs.Telling.{answer-fits}
+use Rattle.step.proofs.Fitting.{whole-answer}
 use Rattle.panel_list.proofs.Printed.{answer-front}
 use Rattle.panel_list.proofs.Reading.{failed-before, no-line, last-line}
 use borrow.Author.Needs.{needs}

@@ -1,6 +1,7 @@
 -- `print` meets its contract: what the line prints stands behind the bytes used.
 use native.Mathlib.Omega.{arith}
-use Rattle.step.proofs.Fitting.{answer-fits, whole-answer}
+use Rattle.telling.proofs.Telling.{answer-fits}
+use Rattle.step.proofs.Fitting.{whole-answer}
 use Rattle.panel_list.proofs.Printed.{length-take-all, line-printed}
 use borrow.Author.Needs.{needs}
 use Rattle.panel_list.proofs.answers.print.Statement.{statement}

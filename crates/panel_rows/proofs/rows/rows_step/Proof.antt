@@ -2,8 +2,9 @@
 use mathlib.Core.Path.{ap, _∙_}
 use native.Mathlib.Omega.{arith}
 use lib.ListN.{length-take}
-use Rattle.step.specs.Telling.{asksList}
-use Rattle.step.proofs.Fitting.{answer-fits, whole-answer}
+use Rattle.telling.specs.Fitting.{asksList}
+use Rattle.telling.proofs.Telling.{answer-fits}
+use Rattle.step.proofs.Fitting.{whole-answer}
 use Rattle.panel_rows.proofs.Fitted.{stepped}
 use borrow.Author.Needs.{needs}
 use Rattle.panel_rows.proofs.rows.rows_step.Statement.{statement}

@@ -1,0 +1,3 @@
+-- What the proofs of functions use.
+mod Commands
+mod Refusing

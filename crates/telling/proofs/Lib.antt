@@ -1,0 +1,3 @@
+-- What the proofs of functions use.
+pub mod Telling
+mod Commands
