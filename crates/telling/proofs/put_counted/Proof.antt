@@ -1,4 +1,4 @@
--- `step::put_counted` meets its contract: seven runs of bytes, one behind the other.
+-- `put_counted` meets its contract: seven runs of bytes, one behind the other.
 use native.Mathlib.Omega.{arith}
 use Rattle.text.proofs.Decimals.{length-number}
 use Rattle.text.proofs.Puts.{put-then}
