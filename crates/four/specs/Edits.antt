@@ -4,9 +4,9 @@ use mathlib.Core.Bool.{Bool, false, _&&_, cond, not}
 use mathlib.Core.List.{List, [], _∷_, map}
 use lib.ListN.{length}
 use Rattle.lists.specs.Lists.{any, keep, insert}
-use Rattle.orientation.specs.Orientations.{rightOf, mirrorOf}
+use Rattle.orientation.specs.Orientations.{rightOf, mirrorOf, canTurn}
 use Rattle.symbol.specs.declared.Point.{Point}
-use Rattle.symbol.specs.Symbols.{canTurn, touchesOf}
+use Rattle.symbol.specs.Symbols.{touchesOf}
 use Rattle.sheet.specs.declared.Wire.{Wire}
 use Rattle.sheet.specs.Split.{splitAll}
 use Rattle.sheet.specs.Merge.{merge}

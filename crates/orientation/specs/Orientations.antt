@@ -84,6 +84,10 @@ mirrors = 4 ∷ 7 ∷ 6 ∷ 5 ∷ 0 ∷ 3 ∷ 2 ∷ 1 ∷ []
 abbrev pub turnBy : List ℕ → ℕ → ℕ
 turnBy t n = getD t n 8
 
+-- "Only contacts turn or mirror in place": the kind is that of a contact
+abbrev pub canTurn : ℕ → Bool
+canTurn kind = eqb kind 1
+
 -- ---- the calls: "A box, pads or a turn asked of a bad kind, orientation or position get 4 or 1, in that order, and zeros for every
 -- number." "For orientations, reply 4 is now a number outside 0 to 7" (document 02, P1).
 

@@ -1,6 +1,6 @@
 // The eight orientations by their numbers, and the three turns.
 ghost use mathlib.Core.Path.{_≡_};
-ghost use Rattle.orientation.specs.Orientations.{numberedOf, turnedBy, rights, lefts, mirrors};
+ghost use Rattle.orientation.specs.Orientations.{numberedOf, turnedBy, rights, lefts, mirrors, canTurn};
 
 // An orientation (a, b, c, d): (x, y) goes to (ax + by, cx + dy).
 pub struct RotMirror(pub i8, pub i8, pub i8, pub i8);
@@ -91,4 +91,11 @@ pub fn mirror(n: u8) -> Turned
         return Turned { reply: 0, turn };
     }
     NO_TURN
+}
+
+// Whether a component of this kind turns or mirrors in place: only contacts do.
+pub fn can_turn(kind: u8) -> bool
+    ensures { λ r. ⌜ r ≡ canTurn kind ⌝ }
+{
+    kind == 1
 }

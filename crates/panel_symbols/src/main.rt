@@ -59,7 +59,7 @@ fn put_kind(kind: u8) {
     put(b"K");
     put_number(kind as u16);
     put(b":");
-    put_number(if symbol::can_turn(kind) { 1 } else { 0 });
+    put_number(if orientation::can_turn(kind) { 1 } else { 0 });
     put(b"\n");
 }
 

@@ -9,11 +9,11 @@ ghost use mathlib.Core.Path.{_≡_};
 ghost use mathlib.Core.List.{[]};
 ghost use Rattle.sheet.specs.Parts;
 ghost use Rattle.parts.specs.Tables.{TabledParts, met};
+use orientation::can_turn;
 use sheet::Component;
 use sheet::Components;
 use symbol::Bounds;
 use symbol::bounds_at;
-use symbol::can_turn;
 use symbol::touches;
 
 // The empty table: all its rows are zero, their orientations too (zero_row_turned).

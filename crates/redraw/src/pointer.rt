@@ -71,8 +71,8 @@ pub fn rotate_on(d: Drawing, x: i32, y: i32, size: i32, t: Tally) -> Edited
     act_on(d, Act::TurnRight, x, y, size, t)
 }
 
-// "Turn right, mirror.", the mirror. Two wrong answers that this rules out: contacts turned right (mirror_turns), and as many told as lost as
-// were hit (lost_invented).
+// "Turn right, mirror.", the mirror. Two wrong answers that this rules out: contacts turned right (`edits`' mirror_takes_the_turn), and as many
+// told as lost as were hit (lost_invented).
 pub fn mirror_on(d: Drawing, x: i32, y: i32, size: i32, t: Tally) -> Edited
     requires { ⌜ Lawful d ⌝ }
     ensures { λ r. ⌜ r ≡ Calls.mirrorAt d x y size t ⌝ }

@@ -4,11 +4,11 @@ use mathlib.Core.Bool.{Bool}
 use mathlib.Core.List.{List}
 use lib.Dec.{T}
 use Rattle.lists.specs.Lists.{gather}
-use Rattle.orientation.specs.Orientations.{eighth, turnBy, rights, mirrors}
+use Rattle.orientation.specs.Orientations.{eighth, turnBy, rights, mirrors, canTurn}
 use Rattle.label.specs.Labels.{labelOk}
 use Rattle.symbol.specs.declared.Point.{Point}
 use Rattle.symbol.specs.declared.Bounds.{Bounds}
-use Rattle.symbol.specs.Symbols.{canTurn, padPoints, boundsAt, touchesOf}
+use Rattle.symbol.specs.Symbols.{padPoints, boundsAt, touchesOf}
 use Rattle.sheet.specs.declared.Component.{Component}
 use Rattle.sheet.specs.Points.{rises}
 

@@ -2,7 +2,7 @@
 use Prim.Native.Nat.{ℕ, zero, suc, min, max, _≤_, _<_}
 use mathlib.Core.Bool.{Bool, _&&_}
 use mathlib.Core.List.{List, [], _∷_, _++_, map}
-use lib.Dec.{leb, ltb, eqb}
+use lib.Dec.{leb, ltb}
 use lib.IntN.{ℤ, pos, negℤ, _+ℤ_, _*ℤ_}
 use lib.ListN.{length, take}
 use Rattle.orientation.specs.declared.RotMirror.{RotMirror}
@@ -42,10 +42,6 @@ abbrev pub highAt : ℕ → Offset
 highAt zero = off (pos 50) (pos 0)
 highAt (suc zero) = off (pos 50) (pos 100)
 highAt (suc (suc n)) = off (pos 50) (pos 150)
-
--- "Only contacts turn or mirror in place": the kind is that of a contact
-abbrev pub canTurn : ℕ → Bool
-canTurn kind = eqb kind 1
 
 -- "(a, b, c, d) takes (x, y) to (ax+by, cx+dy)."
 abbrev pub applied : RotMirror → Offset → Offset

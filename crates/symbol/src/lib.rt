@@ -2,7 +2,7 @@
 ghost use mathlib.Core.Path.{_≡_};
 ghost use Prim.Native.Nat.{_≤_};
 ghost use Rattle.orientation.specs.Orientations.{eighth};
-ghost use Rattle.symbol.specs.Symbols.{Positioned, Placeable, knownSymbol, canTurn, movedOf, padBlock, boundsAt, touchesOf};
+ghost use Rattle.symbol.specs.Symbols.{Positioned, Placeable, knownSymbol, movedOf, padBlock, boundsAt, touchesOf};
 ghost use Rattle.symbol.specs.Replies.{heldReply};
 ghost use Rattle.symbol.specs.Answers.{padsReplyOf, aabbOf};
 ghost use Rattle.symbol.specs.Steps.{offsetOf, alongOf, mapFirst, reachingOf, Near, Mapping, Reaching};
@@ -66,13 +66,6 @@ const DEPTHS: [u16; 3] = [0, 100, 150];
 const BACK_X: [bool; 8] = [false, true, true, false, true, true, false, false];
 
 const BACK_Y: [bool; 8] = [false, false, true, true, false, true, true, false];
-
-// Whether a component of this kind turns or mirrors in place: only contacts do.
-pub fn can_turn(kind: u8) -> bool
-    ensures { λ r. ⌜ r ≡ canTurn kind ⌝ }
-{
-    kind == 1
-}
 
 // One coordinate of a symbol's point: d, given as 200 more, on from p or back from it.
 fn along(back: bool, d: u16, p: u16) -> u16
