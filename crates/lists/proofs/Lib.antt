@@ -10,4 +10,5 @@ pub mod Passes
 pub mod Insert
 pub mod Somes
 pub mod Finding
+pub mod First
 pub mod Mapped

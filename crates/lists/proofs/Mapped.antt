@@ -1,10 +1,12 @@
 -- A list whose rows are translated, each by t: what a test, a choice, a place in order and a gathering make of it.
 use Prim.Native.Nat.{ℕ, zero, suc}
-use mathlib.Core.Bool.{Bool, true, false, cond, _&&_}
+use mathlib.Core.Bool.{Bool, true, false, cond, not, _&&_}
 use mathlib.Core.List.{List, [], _∷_, _++_, map, List·Memᴰ·head as ∈-head, List·Memᴰ·tail as ∈-tail}
 use mathlib.Core.Path.{_≡_, refl, ap, _∙_}
 use lib.ListN.{take, drop, take-append-drop}
 use Rattle.lists.specs.Lists.{_∈_, any, all, links, keep, insert, gather}
+use Rattle.lists.specs.Span.{span}
+use Rattle.lists.specs.First.{firstRow}
 use Rattle.lists.proofs.Somes.{any-as, any-map}
 
 module _ {A B : Type 0} (t : A → B) where
@@ -17,6 +19,11 @@ module _ {A B : Type 0} (t : A → B) where
     unfolding all
     all-mapped [] = refl
     all-mapped (x ∷ xs) = λ i. e x i && all-mapped xs i
+
+    pub first-mapped : (xs : List A) → firstRow f (map t xs) ≡ firstRow g xs
+    unfolding span
+    first-mapped [] = refl
+    first-mapped (x ∷ xs) = λ i. cond (not (e x i)) (suc (first-mapped xs i)) zero
 
     pub keep-mapped : (xs : List A) → keep f (map t xs) ≡ map t (keep g xs)
     unfolding keep

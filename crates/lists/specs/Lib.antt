@@ -1,3 +1,4 @@
 pub mod Lists
 pub mod Tables
 pub mod Span
+pub mod First

@@ -1,14 +1,16 @@
 -- The check tells the first broken rule, and for rule 5 the first pair of boxes that share a point; rule 0 just of a lawful drawing.
 use Prim.Native.Nat.{ℕ, suc, _+_, _<_}
 use mathlib.Core.Bool.{Bool, true, false, cond}
-use mathlib.Core.List.{List, [], _∷_, List·Memᴰ·head as ∈-head, List·Memᴰ·tail as ∈-tail, List·Memᴰ·not-nil as ∈-nil}
+use mathlib.Core.List.{List, [], _∷_, List·Memᴰ·not-nil as ∈-nil}
 use mathlib.Core.Path.{_≡_, refl, sym, ap, subst}
 use mathlib.Core.Logic.{_↔_}
 use native.Mathlib.Nat.{zero-add}
 use native.Mathlib.Omega.{arith}
 use Rattle.lists.specs.Lists.{_∈_, Rows, none, more}
+use Rattle.lists.specs.First.{FirstAt, now, next}
 use Rattle.lists.proofs.Tests.{Reads, pass, fail}
 use Rattle.lists.proofs.Lists.{in-cons}
+use Rattle.lists.proofs.First.{first-in}
 use Rattle.sheet.specs.declared.Component.{Component}
 use Rattle.sheet.specs.declared.Drawing.{Drawing}
 use Rattle.sheet.specs.Parts.{padsOf, touches}
@@ -21,7 +23,7 @@ use Rattle.rules.specs.declared.Checked.{Checked}
 use Rattle.rules.specs.declared.Touching.{Touching}
 use Rattle.rules.specs.Check.{touchingOne, touchingFrom, broken, unless, unlessTouching, fromRule5, checkOf}
 use Rattle.rules.specs.Check as C
-use Rattle.rules.specs.Verdict.{First, sound, fails, holds, seven, FirstAt, now, next, FirstPair, here, later, Touch, Right}
+use Rattle.rules.specs.Verdict.{First, sound, fails, holds, seven, FirstPair, here, later, Touch, Right}
 use Rattle.rules.proofs.Decides.{reads3, reads4, reads6}
 
 -- ---- the first pair
@@ -66,12 +68,8 @@ pairs i (c ∷ cs) = join (one i c (suc i) cs (touchingFrom (suc i) cs)) (pairs 
     join (hit k f) p = put i (suc i + k) 0 (suc k) (omega arith) (omega arith) (here f)
     join (miss f) p = behind f p
 
-first-at : {A : Type 0} {P : A → Type 0} {xs : List A} {k : ℕ} → FirstAt P xs k → ((c : A) → c ∈ xs → P c → ⊥) → ⊥
-first-at (now {x} p) f = f x (∈-head refl) p
-first-at (next n g) f = first-at g (λ c m. f c (∈-tail m))
-
 no-pair : {A : Type 0} {R : A → A → Type 0} {xs : List A} {a b : ℕ} → FirstPair R xs a b → Rows (λ x y. R x y → ⊥) xs → ⊥
-no-pair (here f) (more h r) = first-at f h
+no-pair (here f) (more h r) = first-in f h
 no-pair (later n p) (more h r) = no-pair p r
 
 -- ---- the first broken rule

@@ -3,6 +3,7 @@ use Prim.Native.Nat.{ℕ, suc}
 use mathlib.Core.List.{List, [], _∷_}
 use mathlib.Core.Path.{_≡_}
 use Rattle.lists.specs.Lists.{_∈_}
+use Rattle.lists.specs.First.{FirstAt}
 use Rattle.sheet.specs.declared.Component.{Component}
 use Rattle.sheet.specs.declared.Drawing.{Drawing}
 use Rattle.sheet.specs.Boxes.{Shares}
@@ -24,11 +25,6 @@ seven d =
     let ps = padsOf (s .parts) in
     let js = jointRows (d .joints) in
     Rule1 d ∷ Rule2 (s .wires) ∷ Rule3 (s .wires) ps ∷ Rule4 (s .wires) ps ∷ Rule5 (s .parts) ∷ Rule6 js (marksOf s) ∷ Rule7 s js ∷ []
-
--- P holds at row i, and at no row before it
-pub data FirstAt {A : Type 0} (P : A → Type 0) : List A → ℕ → Type 0 where
-  now : {x : A} {xs : List A} → P x → FirstAt P (x ∷ xs) 0
-  next : {x : A} {xs : List A} {i : ℕ} → (P x → ⊥) → FirstAt P xs i → FirstAt P (x ∷ xs) (suc i)
 
 -- R holds of the rows i and j, i before j, and of no pair before them by lower row and then higher
 pub data FirstPair {A : Type 0} (R : A → A → Type 0) : List A → ℕ → ℕ → Type 0 where
