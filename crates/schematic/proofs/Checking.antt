@@ -1,18 +1,17 @@
 -- The check decides between 9 and the edit.
 use native.Mathlib.Omega.{arith}
-use mathlib.Core.Bool.{Bool, true, false}
-use mathlib.Core.Path.{_≡_, refl, sym, ap, subst, _∙_}
+use mathlib.Core.Path.{_≡_, refl, sym, ap, _∙_}
 use borrow.Author.Tests.{eq-eqb, ne-eqb}
-use lib.Dec.{T, eqb→eq}
+use Rattle.lists.proofs.Tests.{choose, reads-as, eqb-reads}
 use Rattle.sheet.specs.declared.Drawing.{Drawing}
 use Rattle.sheet.specs.declared.Tally.{Tally}
 use Rattle.sheet.specs.Drawings.{Sized}
 use Rattle.sheet.specs.Rules.{Lawful}
 use Rattle.rules.specs.declared.Checked.{Checked}
-use Rattle.rules.specs.Check.{checkOf, lawful}
+use Rattle.rules.specs.Check.{checkOf}
 use Rattle.rules.proofs.Check.{check-lawful, lawful-none}
 use Rattle.redraw.specs.declared.Edited.{Edited}
-use Rattle.redraw.specs.Calls.{refused, refusedUnless}
+use Rattle.redraw.specs.Calls.{refused}
 use Rattle.redraw.proofs.Laws.{Accepted}
 use Rattle.schematic.specs.Calls.{checked}
 
@@ -36,11 +35,11 @@ module _ (d : Drawing) {k : Checked} (q : k ≡ checkOf d) where
 pub lawful-passes : {d : Drawing} → Lawful d → (t : Tally) (e : Edited) → e ≡ checked d t e
 lawful-passes {d} l t e = lawful-edited d (lawful-none l) t e refl
 
--- what holds of an edit's answer if the drawing is lawful holds of the call's: reply 0 gives a lawful drawing and a tally that adds up
-pub checked-accepted : (d : Drawing) (t : Tally) (e : Edited) → Sized d → (Lawful d → Accepted e) → Accepted (checked d t e)
+-- what holds of 9, and of an edit's answer if the drawing is lawful, holds of the call's
+pub by-check : (P : Edited → Type 0) (d : Drawing) (t : Tally) (e : Edited) → Sized d → ((Lawful d → ⊥) → P (refused 9 d t)) → (Lawful d → P e) → P (checked d t e)
 unfolding checked
-checked-accepted d t e z f = go (lawful d) refl
-  where
-    go : (b : Bool) → lawful d ≡ b → Accepted (refusedUnless b 9 d t e)
-    go true q = f (check-lawful d z .0 (eqb→eq (checkOf d .rule) 0 (subst T (sym q) tt)))
-    go false q = λ r. absurd (omega arith)
+by-check P d t e z f g = choose (reads-as (check-lawful d z) (eqb-reads (checkOf d .rule) 0)) P g f
+
+-- so reply 0 gives a lawful drawing and a tally that adds up
+pub checked-accepted : (d : Drawing) (t : Tally) (e : Edited) → Sized d → (Lawful d → Accepted e) → Accepted (checked d t e)
+checked-accepted d t e z g = by-check Accepted d t e z (λ f r. absurd (omega arith)) g

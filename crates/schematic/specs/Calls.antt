@@ -1,5 +1,5 @@
 -- The five edits as a caller meets them: "9: the lent drawing isn't lawful", and then as `redraw` has them.
--- "Order: 10, 9, 4, 1, 2, 3, 5, 6, 7, 8; the first that applies."
+-- "Order: 10, 9, 4, 1, 2, 3, 5, 6, 7, 8; the first that applies.", with 11 "straight after 7" (document 02, P4).
 use Rattle.sheet.specs.declared.Drawing.{Drawing}
 use Rattle.sheet.specs.declared.Tally.{Tally}
 use Rattle.rules.specs.Check.{lawful}
