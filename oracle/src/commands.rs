@@ -20,6 +20,7 @@ const USAGE: &str = "\
 oracle rows [ORDER]        the Rust's output for a script on standard input, in the form of panel_rows
 oracle list [ORDER]        the same in the form of panel_list
 oracle netlist [ORDER]     at each n the Rust's own netlist
+oracle told [ORDER]        for each edit `A <reply> row <row>`, the row being the first component touched, or 0
 oracle model               panel_rows by the model instead of the Rust
 oracle generate SEED       the script of a seed
 oracle filter              the script on standard input without the turns that tree order decides
@@ -28,9 +29,10 @@ oracle sample list DIR     the same for panel_list, with the drop point, chosen 
 oracle symbols             turns, boxes and pads, in the form of panel_symbols
 oracle shapes              the bits of all shapes, in the form of panel_shapes
 oracle constants           the bits of the constants built with a square root
-oracle compare [--list] [--edits N] [--seed N] [-- COMMAND]
+oracle compare [--list|--told] [--edits N] [--seed N] [-- COMMAND]
                            seeded scripts through the Rust in all orders and through a command that reads a script
-                           and prints as panel_rows does (as panel_list with --list), or the model if none is named
+                           and prints as panel_rows does (as panel_list with --list, as `oracle told` with --told),
+                           or the model if none is named
 ORDER: insertion (default), reverse, shuffled, middle";
 
 /// The exit status.
@@ -42,6 +44,9 @@ pub fn main(arguments: &[String]) -> i32 {
         }
         ["list", ref rest @ ..] => {
             with_order(rest, |order| write(&run(&mut Original::new(order), &input(), Form::List)))
+        }
+        ["told", ref rest @ ..] => {
+            with_order(rest, |order| write(&run(&mut Original::new(order), &input(), Form::Told)))
         }
         ["netlist", ref rest @ ..] => with_order(rest, |order| write(&netlists(order, &input()))),
         ["model"] => write(&run(&mut Model::default(), &input(), Form::Rows)),
@@ -143,6 +148,7 @@ impl Asked {
         while let Some(&word) = rest.next() {
             match word {
                 "--list" => asked.form = Form::List,
+                "--told" => asked.form = Form::Told,
                 "--edits" => asked.edits = rest.next()?.parse().ok()?,
                 "--seed" => asked.seed = rest.next()?.parse().ok()?,
                 "--" => asked.program = Program::Command(rest.by_ref().map(|word| word.to_string()).collect()),

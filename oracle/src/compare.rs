@@ -116,7 +116,7 @@ pub fn same(expected: &[u8], found: &[u8], form: Form) -> Result<(), String> {
     let same = expected.iter().zip(&found).take_while(|(one, other)| one == other).count();
     let last_of_its_line = |line: &&String| match form {
         Form::Rows => *line == ".",
-        Form::List => line.starts_with("A ") || line.starts_with("E "),
+        Form::List | Form::Told => line.starts_with("A ") || line.starts_with("E "),
     };
     let script_line = expected[..same].iter().filter(last_of_its_line).count() + 1;
     let at = |lines: &[String]| lines.get(same).cloned().unwrap_or("the end".into());

@@ -33,8 +33,11 @@ impl Drawing for Model {
         if answer.reply != 0 {
             return answer;
         }
-        if after.wires.len() > MOST_WIRES || after.components.len() > MOST_COMPONENTS {
+        if after.components.len() > MOST_COMPONENTS {
             return Answer::reply(7);
+        }
+        if after.wires.len() > MOST_WIRES {
+            return Answer::reply(11);
         }
         *self = after;
         answer
@@ -63,9 +66,10 @@ impl Model {
             Edit::Wire { vertical, line, start, end } => self.add_wire(Wire { vertical, line, start, end }),
             Edit::Place { kind, orient, x, y, ref label } => {
                 let part = Component { y, x, kind: kind as usize, orient: orient as usize, label: label.clone() };
-                if !self.place(part) {
-                    return Answer::reply(6);
+                if let Some(row) = self.first_touched(&part) {
+                    return Answer::touching(row);
                 }
+                self.place(part);
             }
             Edit::Delete(pointer) => self.delete(pointer),
             Edit::TurnRight(pointer) => return self.turn(pointer, Turn::Right),
@@ -103,6 +107,11 @@ impl Model {
         }
     }
 
+    /// The row of the first placed component, in row order, whose box shares a point with this one's.
+    fn first_touched(&self, part: &Component) -> Option<usize> {
+        self.rows().components.iter().position(|other| Bounds::of(other).touches(Bounds::of(part)))
+    }
+
     /// False, and nothing placed, if its box shares a point with a placed one.
     fn place(&mut self, part: Component) -> bool {
         if self.components.iter().any(|other| Bounds::of(other).touches(Bounds::of(&part))) {
@@ -136,7 +145,7 @@ impl Model {
         self.merge();
         hit.sort();
         let lost = hit.iter().filter(|part| !self.place(altered(part, turn))).count();
-        Answer { reply: 0, hit: hit.len() as u32, lost: lost as u32 }
+        Answer { hit: hit.len() as u32, lost: lost as u32, ..Answer::default() }
     }
 }
 

@@ -41,6 +41,16 @@ impl Original {
         (0..boxes.len()).any(touching)
     }
 
+    /// The lowest row of those components that the Rust finds about the one it turned down.
+    fn first_met(&self, position: [i32; 2], kind: i32, orient: i32) -> usize {
+        let part =
+            Component::new(position.into(), kind_numbered(kind as usize), numbered(orient as usize), String::new());
+        let met: Vec<_> = self.state.components_iter(part.envelope()).map(|other| other.position).collect();
+        let rows = rows_of(&self.state).components;
+        let is_met = |row: &rows::Component| met.iter().any(|at| (at.x, at.y) == (row.x, row.y));
+        rows.iter().position(is_met).expect("the Rust turned it down for a component that it has")
+    }
+
     /// The contacts that the square meets, altered, but for those that would touch a component that stays.
     fn altered(&self, pointer: Pointer, turn: impl Fn(&Component) -> crate::schematic::RotMirror) -> Vec<Component> {
         let hit = contacts_hit(&self.state, pointer);
@@ -53,19 +63,22 @@ impl Original {
 }
 
 impl Drawing for Original {
-    /// The Rust has no limits of its own, so it edits a copy, and 7 is judged on what came out.
+    /// The Rust has no limits of its own, so it edits a copy, and 7 and 11 are judged on what came out.
     fn edit(&mut self, edit: &Edit) -> Answer {
         if let Some(reply) = refusal(edit) {
             return Answer::reply(reply);
         }
         let mut after = Original { state: self.state.round_trip() };
         let answer = edit_unlimited(&mut after.state, edit);
-        if answer.reply != 0 {
-            return answer;
+        if let (6, Edit::Place { kind, orient, x, y, .. }) = (answer.reply, edit) {
+            return Answer::touching(self.first_met([*x, *y], *kind, *orient));
         }
         let (wires, components) = after.sizes();
-        if wires > MOST_WIRES || components > MOST_COMPONENTS {
+        if components > MOST_COMPONENTS {
             return Answer::reply(7);
+        }
+        if wires > MOST_WIRES {
+            return Answer::reply(11);
         }
         *self = after;
         answer
@@ -85,7 +98,7 @@ impl Drawing for Original {
 }
 
 /// The Rust's edit with no refusal before it and no copy: what a timing of the Rust times. 6 where it turns a component
-/// down.
+/// down, with no row: the Rust tells none.
 pub fn edit_unlimited(state: &mut State, edit: &Edit) -> Answer {
     match *edit {
         Edit::Wire { vertical: false, line, start, end } => state.add_wire(WireH { y: line, x1: start, x2: end }),
@@ -111,7 +124,7 @@ fn turn(state: &mut State, pointer: Pointer, turn: Turn) -> Answer {
     let hit = contacts_hit(state, pointer);
     turn(state, [pointer.x, pointer.y].into(), pointer.size);
     let gone = |part: &&Component| !state.components_iter(everywhere()).any(|other| other.position == part.position);
-    Answer { reply: 0, hit: hit.len() as u32, lost: hit.iter().filter(gone).count() as u32 }
+    Answer { hit: hit.len() as u32, lost: hit.iter().filter(gone).count() as u32, ..Answer::default() }
 }
 
 fn contacts_hit(state: &State, Pointer { x, y, size }: Pointer) -> Vec<Component> {

@@ -26,7 +26,7 @@ pub fn record(form: Form) -> Result<(Vec<u8>, Vec<u8>), String> {
     let mut script = match form {
         Form::Rows => [by_lot(sample(SEED, LINES))?, split(&beyond_128_components())].concat(),
         // Where no rows are printed, full tables cost little room.
-        Form::List => {
+        Form::List | Form::Told => {
             let chosen = [DROP_POINT, DROP_POINT_CLEARED, CHOSEN, &edits_at_the_limits()].concat();
             [split(&chosen), by_lot([sample(SEED, LINES), full_sample(SEED)].concat())?].concat()
         }

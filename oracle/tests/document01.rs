@@ -109,10 +109,10 @@ fn refusals_in_order() {
 }
 
 #[test]
-fn full_tables_refuse_by_7() {
+fn full_tables_refuse_by_11_and_7() {
     let wires: String = (0..512).map(|n| format!("h {n} 0 9\n")).collect();
     let end = "h 600 0 9\nv 5 600 609\nh 0 9 10\nh 0 0 0\np 1 0 0 700\np 1 0 5 101\nr 0 700 0\n";
-    assert!(printed(&(wires + end)).ends_with("A 0\nA 7\nA 7\nA 0\nA 0\nA 0\nA 7\nA 0 1 0\n"));
+    assert!(printed(&(wires + end)).ends_with("A 0\nA 11\nA 11\nA 0\nA 0\nA 0\nA 11\nA 0 1 0\n"));
     let parts: String = (0..128).map(|n| format!("p 1 0 {} {}\n", n % 16 * 101, n / 16 * 201)).collect();
     assert!(printed(&(parts + "p 1 0 0 2000\np 1 0 0 0\n")).ends_with("A 0\nA 7\nA 6\n"));
 }
@@ -121,7 +121,7 @@ fn full_tables_refuse_by_7() {
 fn a_turn_may_lack_room() {
     let wires: String = (0..512).map(|n| format!("h {n} -200 -190\n")).collect();
     let turn = "d -200 511 0\nd -200 510 0\np 1 0 0 -200\nv -100 -160 -140\nh -200 90 110\n";
-    assert!(printed(&(wires.clone() + turn + "r 0 -200 0\n")).ends_with("A 0\nA 7 0 0\n"));
+    assert!(printed(&(wires.clone() + turn + "r 0 -200 0\n")).ends_with("A 0\nA 11 0 0\n"));
     assert!(printed(&(wires + turn + "d -200 509 0\nd -200 508 0\nr 0 -200 0\n")).ends_with("A 0 1 0\n"));
 }
 

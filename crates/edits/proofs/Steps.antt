@@ -1,10 +1,10 @@
 -- Each edit's tables, from those of its steps.
-use Prim.Native.Nat.{ℕ, _+_, _≤_}
+use Prim.Native.Nat.{ℕ, _+_, _≤_, _<_}
 use native.Mathlib.Omega.{arith}
-use mathlib.Core.Bool.{Bool, false, not}
+use mathlib.Core.Bool.{Bool, true, false, not}
 use mathlib.Core.List.{List, map}
 use mathlib.Core.Path.{_≡_, refl, sym, ap, _∙_, subst}
-use lib.ListN.{length, length-map}
+use lib.ListN.{length-map}
 use Rattle.lists.specs.Lists.{_∈_, keep, insert}
 use Rattle.lists.proofs.Tests.{test, not-reads}
 use Rattle.lists.proofs.Lists.{keep-all, keep-old}
@@ -27,7 +27,7 @@ use Rattle.wires.proofs.Growing.{grows-room, grows-as}
 use Rattle.parts.specs.Tables.{TabledParts, PartsFit}
 use Rattle.joints.specs.Tables.{sheetOf, Sound}
 use Rattle.edits.specs.Making.{quiet, noRoom, made, altered, placedAgain}
-use Rattle.edits.proofs.Making.{made-none}
+use Rattle.edits.proofs.Making.{full-parts, full-wires}
 
 -- ---- wire
 
@@ -47,9 +47,13 @@ module _ (n : Wire) {ws : Wires} {cs : Components} (s : Sound ws cs) where
 -- ---- place
 
 module _ (c : Component) {ws : Wires} {cs : Components} (s : Sound ws cs) where
-  pub placed-full : 128 ≤ cs .count → noRoom ≡ made (quiet (placeOne c (sheetOf ws cs)))
+  pub placed-full : 128 ≤ cs .count → noRoom 7 ≡ made (quiet (placeOne c (sheetOf ws cs)))
   unfolding placeOne
-  placed-full h = sym (made-none _ (λ r. let m : length (insert ahead c (componentRows cs)) ≤ 128 = r .parts in omega (arith, length-insert ahead c (componentRows cs), s .parts .count-is)))
+  placed-full h = full-parts _ (omega (arith, length-insert ahead c (componentRows cs), s .parts .count-is))
+
+  pub placed-split : {h : Grown} → cs .count < 128 → Splits (pads c) (record { full = false; table = ws }) h → h .full ≡ true → noRoom 11 ≡ made (quiet (placeOne c (sheetOf ws cs)))
+  unfolding placeOne
+  placed-split b k e = full-wires _ (k .so (wireRows ws) (grows-room (wireRows ws) refl (s .wires))) e (omega (arith, length-insert ahead c (componentRows cs), s .parts .count-is))
 
   pub placed-wires : {h : Grown} → Splits (pads c) (record { full = false; table = ws }) h → Grows (placeOne c (sheetOf ws cs) .wires) h
   unfolding placeOne

@@ -1,19 +1,21 @@
--- Below the calls, but for `roomy` and `quiet`: what an edit of a sheet makes of its tables.
+-- Below the calls, but for `roomReply` and `quiet`: what an edit of a sheet makes of its tables.
 use Prim.Native.Nat.{ℕ, _≤_}
-use mathlib.Core.Bool.{Bool, true, false, _&&_, cond}
+use mathlib.Core.Bool.{Bool, cond}
 use mathlib.Core.List.{List, []}
 use lib.Dec.{leb}
 use lib.ListN.{length}
 use Rattle.symbol.specs.declared.Point.{Point}
+use Rattle.symbol.specs.Replies.{orElse, unless, granted}
 use Rattle.sheet.specs.declared.Component.{Component}
 use Rattle.sheet.specs.Parts.{turnedRight, mirrored}
 use Rattle.sheet.specs.Drawings.{Sheet, wireTable, componentTable}
 use Rattle.sheet.specs.Edits.{Outcome, placeAll}
 use Rattle.edits.specs.declared.Made.{Made}
 
--- "the drawing after the edit would hold over 512 wires or 128 components": this says that it does not
-unfoldable pub roomy : Sheet → Bool
-roomy s = leb (length (s .wires)) 512 && leb (length (s .parts)) 128
+-- "Reply 7 is to mean components only"; "11, more than 512 wires after the edit, straight after 7; where both apply, 7." (document 02, P4);
+-- 0 where the drawing after the edit has room for both
+unfoldable pub roomReply : Sheet → ℕ
+roomReply s = orElse (unless (leb (length (s .parts)) 128) 7) (unless (leb (length (s .wires)) 512) 11)
 
 -- "Hit and lost are 0 for wire, place and delete."
 abbrev pub quiet : Sheet → Outcome
@@ -21,15 +23,15 @@ quiet s = record { sheet = s; hit = 0; lost = 0 }
 
 -- the new tables
 abbrev pub tables : Outcome → Made
-tables o = record { full = false; wires = wireTable (o .sheet .wires); parts = componentTable (o .sheet .parts); hit = o .hit; lost = o .lost }
+tables o = record { reply = 0; wires = wireTable (o .sheet .wires); parts = componentTable (o .sheet .parts); hit = o .hit; lost = o .lost }
 
--- the word that there is no room, and nothing
-abbrev pub noRoom : Made
-noRoom = record { full = true; wires = wireTable []; parts = componentTable []; hit = 0; lost = 0 }
+-- the reply that there is no room, and nothing
+abbrev pub noRoom : ℕ → Made
+noRoom n = record { reply = n; wires = wireTable []; parts = componentTable []; hit = 0; lost = 0 }
 
 -- what the edit makes, if there is room
 unfoldable pub made : Outcome → Made
-made o = cond (roomy (o .sheet)) (tables o) noRoom
+made o = granted (roomReply (o .sheet)) noRoom (tables o)
 
 -- turned right, or mirrored
 abbrev pub altered : Bool → Component → Component

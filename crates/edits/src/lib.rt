@@ -1,4 +1,4 @@
-// The edits on tables of a sheet: each makes the tables of what its definition says of the sheet, or says that they have no room.
+// The edits on tables of a sheet: each makes the tables of what its definition says of the sheet, or says which of them has no room.
 pub mod delete;
 pub mod draw;
 pub mod place;
@@ -15,9 +15,10 @@ use sheet::Wires;
 use wires::Grown;
 use wires::no_wires;
 
-// What an edit makes: the new tables, and how many contacts were hit and lost. Or the word that there is no room, and nothing.
+// What an edit makes: the new tables, and how many contacts were hit and lost. Or nothing, and the reply to that: 7 where there is no room
+// for the components, 11 where there is none for the wires.
 pub struct Made {
-    pub full: bool,
+    pub reply: u8,
     pub wires: Wires,
     pub parts: Components,
     pub hit: u32,
@@ -25,13 +26,13 @@ pub struct Made {
 }
 
 // The answer where there is no room.
-pub(crate) fn no_room() -> Made
-    ensures { λ r. ⌜ r ≡ noRoom ⌝ }
+pub(crate) fn no_room(reply: u8) -> Made
+    ensures { λ r. ⌜ r ≡ noRoom reply ⌝ }
 {
     let wires = no_wires();
     let parts = no_parts();
     Made {
-        full: true,
+        reply,
         wires,
         parts,
         hit: 0,
@@ -44,11 +45,11 @@ pub(crate) fn answer(g: Grown, parts: Components, hit: u32, lost: u32) -> Made
     ensures { λ r. ⌜ ((o : Outcome) → Grows (o .sheet .wires) g → TabledParts (o .sheet .parts) parts → hit ≡ o .hit → lost ≡ o .lost → r ≡ made o) ⌝ }
 {
     if g.full {
-        return no_room();
+        return no_room(11);
     }
     let wires = g.table;
     Made {
-        full: false,
+        reply: 0,
         wires,
         parts,
         hit,

@@ -1,9 +1,7 @@
 -- The translated drawing: its lists are the translated lists, and the drawing of the translated lists is the translated drawing.
 use Prim.Native.Nat.{ℕ, zero, suc, _-_}
-use mathlib.Core.Bool.{_&&_}
 use mathlib.Core.List.{List, _∷_, _++_, map}
 use mathlib.Core.Path.{_≡_, refl, sym, ap, _∙_}
-use lib.Dec.{leb}
 use lib.ListN.{length, take, drop, length-map, replicate}
 use lib.Seq.{take-append-seam, drop-append-seam}
 use Rattle.lists.specs.Tables.{pad}
@@ -11,7 +9,6 @@ use Rattle.lists.proofs.Mapped.{front}
 use Rattle.sheet.specs.declared.Component.{Component}
 use Rattle.sheet.specs.declared.Drawing.{Drawing}
 use Rattle.sheet.specs.Drawings.{Sheet, zeroComponent, wireTable, jointTable, listsOf, drawn}
-use Rattle.edits.specs.Making.{roomy}
 use Rattle.four.specs.Plans.{zeroPart}
 use Rattle.four.specs.Plans as Four
 use Rattle.four.specs.Calls as FourCalls
@@ -38,7 +35,3 @@ padded-four n xs =
 pub drawn-same : (s : Sheet) → Four.drawn (fours s) ≡ fourDrawing (drawn s)
 unfolding drawn Four.drawn
 drawn-same s = λ i. record { wires = wireTable (s .wires); components = record { rows = padded-four 128 (s .parts) i; count = length-map (s .parts) four i }; joints = jointTable (same-joints s i) }
-
-pub roomy-same : (s : Sheet) → FourCalls.roomy (fours s) ≡ roomy s
-unfolding roomy FourCalls.roomy
-roomy-same s = λ i. leb (length (s .wires)) 512 && leb (length-map (s .parts) four i) 128

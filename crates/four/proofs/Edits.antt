@@ -1,26 +1,29 @@
 -- The edits under the translation: what `Sheets` says of lists, through tables and refusals.
 use Prim.Native.Nat.{ℕ}
-use mathlib.Core.Bool.{Bool, true, false, _&&_, not}
+use mathlib.Core.Bool.{Bool, true, false, cond, _&&_}
 use mathlib.Core.Path.{_≡_, refl, sym, ap, _∙_}
 use lib.Dec.{leb, ltb, eqb}
 use lib.IntN.{ℤ}
+use lib.ListN.{length, length-map}
 use lib.Signed.{leZ}
 use Rattle.lists.specs.Lists.{any}
-use Rattle.lists.proofs.Mapped.{any-mapped}
+use Rattle.lists.specs.First.{firstRow}
+use Rattle.lists.proofs.Mapped.{any-mapped, first-mapped}
 use Rattle.edge.specs.Coordinates.{toℕ, ranged, sizeOf}
 use Rattle.orientation.specs.Orientations.{eighth}
 use Rattle.orientation.proofs.Turns.{known-number}
 use Rattle.label.specs.declared.Label.{Label}
 use Rattle.label.specs.Labels.{heldLabel}
 use Rattle.symbol.specs.declared.Point.{Point}
-use Rattle.symbol.proofs.Replies.{wire-nested, pointer-nested, component-nested}
+use Rattle.symbol.proofs.Replies.{two-nested, wire-nested, pointer-nested, component-nested}
+use Rattle.sheet.specs.declared.Component.{Component}
 use Rattle.sheet.specs.declared.Drawing.{Drawing}
 use Rattle.sheet.specs.declared.Tally.{Tally}
 use Rattle.sheet.specs.Parts.{touches}
 use Rattle.sheet.specs.Drawings.{listsOf}
 use Rattle.sheet.specs.Edits
 use Rattle.asked.specs.Asked.{wireAt, pointAt, componentAt}
-use Rattle.edits.specs.Making.{roomy, quiet}
+use Rattle.edits.specs.Making.{roomReply, quiet}
 use Rattle.redraw.specs.declared.Edited.{Edited}
 use Rattle.redraw.specs.Calls as Number
 use Rattle.four.specs.Plans.{Plan}
@@ -29,7 +32,7 @@ use Rattle.four.specs.Edits as FourEdits
 use Rattle.four.specs.Calls as Four
 use Rattle.four.specs.Request1.{four, fourDrawing, fourEdited, SameEdits}
 use Rattle.four.proofs.Sheets.{fours, fourOutcome, same-tally, same-touch, same-wire, same-place, same-delete, same-turn, same-mirror}
-use Rattle.four.proofs.Drawings.{lists-same, drawn-same, roomy-same}
+use Rattle.four.proofs.Drawings.{lists-same, drawn-same}
 
 module _ (d : Drawing) (t : Tally) where
   pub unless : (b : Bool) (n : ℕ) {e : Four.Edited} (f : Edited) → e ≡ fourEdited f → Four.refusedUnless b n (fourDrawing d) t e ≡ fourEdited (Number.refusedUnless b n d t f)
@@ -37,10 +40,14 @@ module _ (d : Drawing) (t : Tally) where
   unless false n f q = refl
 
   done : (o : Edits.Outcome) → Four.edited (fourDrawing d) t (fourOutcome o) ≡ fourEdited (Number.edited d t o)
-  unfolding Number.edited Four.edited
+  unfolding Number.edited Four.edited roomReply
   done o =
-      (λ i. Four.refusedUnless (roomy-same (o .sheet) i) 7 (fourDrawing d) t (Four.editDone (fourOutcome o)))
-      ∙ unless (roomy (o .sheet)) 7 (Number.editDone o) (λ i. record { reply = 0; tally = same-tally (o .sheet) i; drawing = drawn-same (o .sheet) i; hit = o .hit; lost = o .lost })
+      let parts = leb (length (o .sheet .parts)) 128 in
+      let wires = leb (length (o .sheet .wires)) 512 in
+      (λ i. Four.refusedUnless (leb (length-map (o .sheet .parts) four i) 128) 7 (fourDrawing d) t (Four.refusedUnless wires 11 (fourDrawing d) t (Four.editDone (fourOutcome o))))
+      ∙ unless parts 7 (Number.refusedUnless wires 11 d t (Number.editDone o))
+      (unless wires 11 (Number.editDone o) (λ i. record { reply = 0; tally = same-tally (o .sheet) i; drawing = drawn-same (o .sheet) i; hit = o .hit; lost = o .lost; row = 0 }))
+      ∙ ap fourEdited (sym (two-nested (λ n. Number.refused n d t) (Number.editDone o) parts wires 7 11 refl refl))
 
   -- an outcome of the plan that is the translation of the sheet's
   after : {q : FourEdits.Outcome} (o : Edits.Outcome) → q ≡ fourOutcome o → Four.edited (fourDrawing d) t q ≡ fourEdited (Number.edited d t o)
@@ -56,25 +63,35 @@ module _ (d : Drawing) (t : Tally) where
       (after o (ap (λ (p : Plan). Four.quiet (FourEdits.wire w p)) (lists-same d) ∙ ap Four.quiet (same-wire w (listsOf d)))))
       ∙ ap fourEdited (sym (wire-nested (λ r. Number.refused r d t) (Number.edited d t o) line start end))
 
+  -- 6 is told of the same placements, with the same row
+  touched : (c : Component) {e : Four.Edited} (f : Edited) → e ≡ fourEdited f → Four.refusedTouching (four c) (fourDrawing d) t e ≡ fourEdited (Number.refusedTouching c d t f)
+  touched c {e} f q =
+      let D = fourDrawing d in
+      let cs = listsOf d .parts in
+      let some = ap (λ (p : Plan). any (Plans.touches (four c)) (p .parts)) (lists-same d) ∙ any-mapped four (Plans.touches (four c)) (touches c) (same-touch c) cs in
+      let row = ap (λ (p : Plan). firstRow (Plans.touches (four c)) (p .parts)) (lists-same d) ∙ first-mapped four (Plans.touches (four c)) (touches c) (same-touch c) cs in
+      (λ i. cond (some i) (Four.refusedAt (row i) 6 D t) (q i)) ∙ case (firstRow (touches c) cs) (any (touches c) cs)
+    where
+      case : (r : ℕ) (b : Bool) → cond b (Four.refusedAt r 6 (fourDrawing d) t) (fourEdited f) ≡ fourEdited (cond b (Number.refusedAt r 6 d t) f)
+      case r true = refl
+      case r false = refl
+
   placed : (kind n : ℕ) (x y : ℤ) (b : Label) → Four.addComponent (fourDrawing d) kind (eighth n) x y b t ≡ fourEdited (Number.addComponent d kind n x y b t)
   unfolding Number.addComponent Four.addComponent
   placed kind n x y b =
       let c = componentAt kind n x y b in
       let s = listsOf d in
-      let free : not (any (Plans.touches (four c)) (Plans.listsOf (fourDrawing d) .parts)) ≡ not (any (touches c) (s .parts)) =
-      ap (λ (p : Plan). not (any (Plans.touches (four c)) (p .parts))) (lists-same d) ∙ ap not (any-mapped four (Plans.touches (four c)) (touches c) (same-touch c) (s .parts))
-      in
       let o : Edits.Outcome = quiet (Edits.placeOne c s) in
       let e6 = Number.edited d t o in
-      let e5 = Number.refusedUnless (not (any (touches c) (s .parts))) 6 d t e6 in
+      let e5 = Number.refusedTouching c d t e6 in
       let e1 = Number.refusedUnless (eqb (heldLabel b .reply) 0) 5 d t e5 in
       let e4 = Number.refusedUnless (ranged 5800 x && ranged 5800 y) 1 d t e1 in
       let rest = after o (ap (λ (p : Plan). Four.quiet (FourEdits.placeOne (four c) p)) (lists-same d) ∙ ap Four.quiet (same-place c s)) in
       (λ i. Four.refusedUnless (leb kind 2 && known-number n i) 4 (fourDrawing d) t
       (Four.refusedUnless (ranged 5800 x && ranged 5800 y) 1 (fourDrawing d) t
       (Four.refusedUnless (eqb (heldLabel b .reply) 0) 5 (fourDrawing d) t
-      (Four.refusedUnless (free i) 6 (fourDrawing d) t (Four.edited (fourDrawing d) t (Four.quiet (FourEdits.placeOne (four c) (Plans.listsOf (fourDrawing d)))))))))
-      ∙ unless (leb kind 2 && ltb n 8) 4 e4 (unless (ranged 5800 x && ranged 5800 y) 1 e1 (unless (eqb (heldLabel b .reply) 0) 5 e5 (unless (not (any (touches c) (s .parts))) 6 e6 rest)))
+      (Four.refusedTouching (four c) (fourDrawing d) t (Four.edited (fourDrawing d) t (Four.quiet (FourEdits.placeOne (four c) (Plans.listsOf (fourDrawing d)))))))))
+      ∙ unless (leb kind 2 && ltb n 8) 4 e4 (unless (ranged 5800 x && ranged 5800 y) 1 e1 (unless (eqb (heldLabel b .reply) 0) 5 e5 (touched c e6 rest)))
       ∙ ap fourEdited (sym (component-nested (λ r. Number.refused r d t) e5 kind n x y b))
 
   -- an edit at a pointer, f of the plan's lists and g of the sheet's

@@ -1,13 +1,14 @@
 -- The calls under the four numbers: turns, boxes and pads, shapes, the five edits, the list and the loose pads, each with its refusals.
--- "Order: 10, 9, 4, 1, 2, 3, 5, 6, 7, 8; the first that applies."
+-- "Order: 10, 9, 4, 1, 2, 3, 5, 6, 7, 8; the first that applies.", with 11 "straight after 7" (document 02, P4).
 use Prim.Native.Nat.{ℕ}
-use mathlib.Core.Bool.{Bool, _&&_, cond, not}
+use mathlib.Core.Bool.{Bool, _&&_, cond}
 use mathlib.Core.List.{List, [], map}
 use lib.Dec.{leb, eqb}
 use lib.IntN.{ℤ}
 use lib.ListN.{length}
 use lib.Signed.{leZ}
 use Rattle.lists.specs.Lists.{any}
+use Rattle.lists.specs.First.{firstRow}
 use Rattle.edge.specs.Coordinates.{toℕ, biased, ranged, sizeOf}
 use Rattle.orientation.specs.declared.RotMirror.{RotMirror}
 use Rattle.orientation.specs.declared.FourNumbers.{FourNumbers}
@@ -58,36 +59,41 @@ componentShape kind o x y label i a b =
 
 -- ---- the edits
 
--- the answer to an edit: besides the reply and the tally the drawing, "how many were hit and how many of these are gone afterwards"
+-- the answer to an edit: besides the reply and the tally the drawing, "how many were hit and how many of these are gone afterwards", and the
+-- row that reply 6 tells
 pub record Edited : Type 0 where
   pub reply : ℕ
   pub tally : Tally
   pub drawing : Drawing
   pub hit : ℕ
   pub lost : ℕ
+  pub row : ℕ
 
 -- "A refused edit returns the drawing received, with hit and lost 0; tally and buffer keep their old content."
+abbrev pub refusedAt : ℕ → ℕ → Drawing → Tally → Edited
+refusedAt row n d t = record { reply = n; tally = t; drawing = d; hit = 0; lost = 0; row = row }
+
+-- "The other replies tell row 0." (document 02, P4)
 abbrev pub refused : ℕ → Drawing → Tally → Edited
-refused n d t = record { reply = n; tally = t; drawing = d; hit = 0; lost = 0 }
+refused n d t = refusedAt 0 n d t
 
 -- the reply n is given if the test fails
 abbrev pub refusedUnless : Bool → ℕ → Drawing → Tally → Edited → Edited
 refusedUnless b n d t other = cond b other (refused n d t)
-
--- "the drawing after the edit would hold over 512 wires or 128 components": this says that it does not
-unfoldable pub roomy : Plan → Bool
-roomy s = leb (length (s .wires)) 512 && leb (length (s .parts)) 128
 
 -- "Hit and lost are 0 for wire, place and delete."
 abbrev pub quiet : Plan → Outcome
 quiet s = record { plan = s; hit = 0; lost = 0 }
 
 abbrev pub editDone : Outcome → Edited
-editDone o = record { reply = 0; tally = tallyOf (o .plan); drawing = drawn (o .plan); hit = o .hit; lost = o .lost }
+editDone o = record { reply = 0; tally = tallyOf (o .plan); drawing = drawn (o .plan); hit = o .hit; lost = o .lost; row = 0 }
 
--- 7 or 0
+-- 7 for components only, 11 for wires "straight after 7", or 0
 unfoldable pub edited : Drawing → Tally → Outcome → Edited
-edited d t o = refusedUnless (roomy (o .plan)) 7 d t (editDone o)
+edited d t o =
+    refusedUnless (leb (length (o .plan .parts)) 128) 7 d t
+    (refusedUnless (leb (length (o .plan .wires)) 512) 11 d t
+    (editDone o))
 
 -- "Wire.": 1, 2, then the edit
 unfoldable pub addWire : Drawing → Bool → ℤ → ℤ → ℤ → Tally → Edited
@@ -99,6 +105,12 @@ addWire d vertical line start end t =
 abbrev pub partAt : ℕ → RotMirror → ℤ → ℤ → Label → Part
 partAt kind o x y label = record { kind = kind; turn = o; x = biased x; y = biased y; label = heldLabel label .bytes }
 
+-- 6, which "also tells the row of the first placed component touched, in row order" (document 02, P4)
+abbrev pub refusedTouching : Part → Drawing → Tally → Edited → Edited
+refusedTouching c d t other =
+    let placed = listsOf d .parts in
+    cond (any (touches c) placed) (refusedAt (firstRow (touches c) placed) 6 d t) other
+
 -- "Place.": 4, 1, 5, 6, then the edit
 unfoldable pub addComponent : Drawing → ℕ → RotMirror → ℤ → ℤ → Label → Tally → Edited
 addComponent d kind o x y label t =
@@ -106,7 +118,7 @@ addComponent d kind o x y label t =
     refusedUnless (knownSymbol kind o) 4 d t
     (refusedUnless (ranged 5800 x && ranged 5800 y) 1 d t
     (refusedUnless (eqb (heldLabel label .reply) 0) 5 d t
-    (refusedUnless (not (any (touches c) (listsOf d .parts))) 6 d t
+    (refusedTouching c d t
     (edited d t (quiet (placeOne c (listsOf d)))))))
 
 -- the pointer and a size are in their ranges, else 1 or 3

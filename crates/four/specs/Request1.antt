@@ -54,7 +54,7 @@ fourDrawing d =
 
 -- the answer to an edit
 abbrev pub fourEdited : Edited → Four.Edited
-fourEdited e = record { reply = e .reply; tally = e .tally; drawing = fourDrawing (e .drawing); hit = e .hit; lost = e .lost }
+fourEdited e = record { reply = e .reply; tally = e .tally; drawing = fourDrawing (e .drawing); hit = e .hit; lost = e .lost; row = e .row }
 
 -- the answer to a turn: "zeros for every number" where it is refused
 abbrev pub fourTurned : Turned → FourNumbers

@@ -196,7 +196,7 @@ fn pointed(d: Drawing, x: i32, size: i32) {
 
 // "The caller lends a tally that is brought up to date in its place": 9 9 9 9 is lent, and stays after a refusal.
 pub(crate) fn lent() {
-    put(b"# a lent tally: 2, 1, 7; a wire of zero length, and a wire\n");
+    put(b"# a lent tally: 2, 1, 11; a wire of zero length, and a wire\n");
     put_tally(tally_after_wire(empty(), false, 0, 6, 5));
     put_tally(tally_after_wire(empty(), true, 6001, 0, 9));
     put_tally(tally_after_wire(full_wires(), false, 600, 0, 9));

@@ -1,4 +1,6 @@
-// Drawings made by hand, row by row.
+// Drawings made by hand, row by row; and one full of wires to which components were added.
+use label::label_of;
+use schematic::add_component;
 use sheet::Component;
 use sheet::Components;
 use sheet::Drawing;
@@ -6,6 +8,7 @@ use sheet::Joint;
 use sheet::Joints;
 use sheet::Wire;
 use sheet::Wires;
+use step::NO_TALLY;
 
 const NO_WIRE: Wire = Wire {
     vertical: false,
@@ -135,4 +138,19 @@ pub(crate) fn full_parts() -> Drawing {
             count: 128,
         },
     }
+}
+
+// The 512 wires of the one, and 128 power symbols where the other has them.
+pub(crate) fn full() -> Drawing {
+    let none = label_of(b"");
+    let mut d = full_wires();
+    let mut k: u16 = 0;
+    while k < 128 {
+        let x = (k % 16 * 200) as i32;
+        let y = (k / 16 * 200) as i32;
+        let e = add_component(d, 0, 0, x, y, none, NO_TALLY);
+        d = e.drawing;
+        k += 1;
+    }
+    d
 }

@@ -8,9 +8,11 @@ mod shapes;
 mod steps;
 
 use crate::drawings::empty;
+use crate::drawings::full;
 use crate::drawings::full_parts;
 use crate::drawings::full_wires;
 use crate::steps::run;
+use crate::steps::run_told;
 
 // "Examples on the drawing board"
 fn board() {
@@ -98,7 +100,7 @@ fn loose() {
     run(empty(), b"p 2 0 0 400 K1\nv 0 200 300\nn");
 }
 
-// Replies in document 01's order, on drawings of 512 wires and of 128 components, so that 7 would apply too
+// Replies in document 01's order, on drawings of 512 wires and of 128 components, so that 7 or 11 would apply too
 fn order() {
     run(full_wires(), b"h 6001 9 0\nh 600 9 0\nh 600 0 9\nh 600 5 5");
     run(
@@ -116,6 +118,31 @@ fn order() {
     );
 }
 
+// Document 02, P4: the first component touched, in row order, not the last and not the one placed first; 7, and 11 by a wire, a place and a
+// turn; where both apply, 7
+fn told() {
+    run_told(
+        empty(),
+        b"from nothing",
+        b"p 1 0 0 0\np 1 0 101 0\np 1 0 202 0\np 1 0 150 0\np 1 0 0 0\np 1 0 0 -300\np 1 0 150 0\np 1 8 150 0\nh 0 9 0",
+    );
+    run_told(
+        full_parts(),
+        b"from 128 components",
+        b"p 0 0 400 200\np 0 0 100 1700\nd 0 0 0\np 0 0 100 1700",
+    );
+    run_told(
+        full_wires(),
+        b"from 512 wires",
+        b"h 600 0 9\np 0 0 -195 300\np 0 0 600 0\nh 9 -200 -190\nd -200 511 0\nd -200 510 0\np 1 0 0 -200\nv -100 -160 -140\nh -200 90 110\nr 0 -200 0",
+    );
+    run_told(
+        full(),
+        b"from both",
+        b"p 0 0 -195 300\nd 3000 1400 0\np 0 0 -195 300\nd -200 511 0\np 0 0 -195 300",
+    );
+}
+
 fn main() {
     board();
     edits();
@@ -123,6 +150,7 @@ fn main() {
     nets();
     loose();
     order();
+    told();
     calls::damaged();
     calls::outside();
     calls::labels();

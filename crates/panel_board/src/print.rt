@@ -42,6 +42,15 @@ fn put_reply(e: Edited, hits: bool) {
     put(b"\n");
 }
 
+// `A <reply> row <row>`
+pub(crate) fn put_row(reply: u8, row: u16) {
+    put(b"A");
+    put_count(reply as u32);
+    put(b" row");
+    put_count(row as u32);
+    put(b"\n");
+}
+
 // The tally and all rows in use; of a large drawing the tally alone, and of one that is not lawful.
 pub(crate) fn put_drawing(d: Drawing, t: Tally) {
     let js = d.joints;

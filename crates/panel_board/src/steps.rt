@@ -4,19 +4,24 @@ ghost use lib.ListN.{length};
 use crate::print::put;
 use crate::print::put_drawing;
 use crate::print::put_front;
+use crate::print::put_row;
 use line_call::step;
 use sheet::Drawing;
 use sheet::Tally;
 use step::NO_TALLY;
 use telling::Stepped;
 
-// A line: what the call prints, and behind an edit the tally and all rows.
-fn answer(d: Drawing, t: Tally, line: &[u8]) -> Stepped {
+// A line: the reply and the row that it tells; or what the call prints, and behind an edit the tally and all rows.
+fn answer(d: Drawing, t: Tally, line: &[u8], told: bool) -> Stepped {
     put(b"> ");
     put(line);
     put(b"\n");
     let mut out = [0u8; 8192];
     let s = step(d, line, t, &mut out);
+    if told {
+        put_row(s.reply, s.row);
+        return s;
+    }
     put_front(&out, s.length);
     let first = if 0 < line.len() { line[0] } else { 0 };
     if first == b'n' {
@@ -45,14 +50,13 @@ fn line_end(text: &[u8], at: usize) -> usize
 }
 
 // All lines of a text, from a drawing on.
-pub(crate) fn run(d: Drawing, text: &[u8]) -> Drawing {
-    put(b"#\n");
+fn lines(d: Drawing, text: &[u8], told: bool) -> Drawing {
     let mut drawing = d;
     let mut tally = NO_TALLY;
     let mut at: usize = 0;
     while at < text.len() {
         let end = line_end(text, at);
-        let s = answer(drawing, tally, &text[at..end]);
+        let s = answer(drawing, tally, &text[at..end], told);
         drawing = s.drawing;
         tally = s.tally;
         if end == text.len() {
@@ -61,4 +65,18 @@ pub(crate) fn run(d: Drawing, text: &[u8]) -> Drawing {
         at = end + 1;
     }
     drawing
+}
+
+// All lines of a text, each with what it prints.
+pub(crate) fn run(d: Drawing, text: &[u8]) -> Drawing {
+    put(b"#\n");
+    lines(d, text, false)
+}
+
+// All lines of a text, each with the row that its reply tells.
+pub(crate) fn run_told(d: Drawing, title: &[u8], text: &[u8]) -> Drawing {
+    put(b"# rows told, ");
+    put(title);
+    put(b"\n");
+    lines(d, text, true)
 }

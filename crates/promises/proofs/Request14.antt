@@ -46,7 +46,7 @@ module _ (t u : Tally) where
       twice = by-reply (Over (λ x. addWire x v a s e u)) (wire-decides d v a s e t refl) (λ f z. absurd (f z)) (λ k.
           let n = askedWire v a s e .wire in
           let f = wire-drawable v a s e refl k in
-          by-room (Over (λ x. addWire x v a s e u)) (quiet (wire n (listsOf d))) (λ z. absurd (omega arith)) (λ r z. same-again _ z (
+          by-room (Over (λ x. addWire x v a s e u)) (quiet (wire n (listsOf d))) (λ p z. absurd (omega arith)) (λ p w z. absurd (omega arith)) (λ r z. same-again _ z (
           sym (wire-decides (drawn (wire n (listsOf d))) v a s e u refl .makes k)
           ∙ ap (λ (x : Sheet). edited (drawn (wire n (listsOf d))) u (quiet (wire n x))) (drawn-lists (wire n (listsOf d)))
           ∙ ap (λ (x : Sheet). edited (drawn (wire n (listsOf d))) u (quiet x)) (wire-again n (listsOf d) f (lawful-good l))
@@ -66,7 +66,7 @@ module _ {d : Drawing} (l : Lawful d) (x y n : ℤ) (t : Tally) where
   nothing-lost : NothingLost d (mirrorAt d x y n t)
   unfolding mirrorAt
   nothing-lost = by-reply (NothingLost d) (pointer-decides d x y n t (λ p m. mirror p m (listsOf d)) refl) (λ f. refusal refl refl) (λ z.
-      by-room (NothingLost d) (mirror _ _ (listsOf d)) (refusal refl refl) (λ r. record {
+      by-room (NothingLost d) (mirror _ _ (listsOf d)) (λ p. refusal refl refl) (λ p w. refusal refl refl) (λ r. record {
         lost = mirror-safe _ _ (listsOf d) (lawful-good l);
         components = ap (λ (s : Sheet). length (s .parts)) (drawn-lists (mirror _ _ (listsOf d) .sheet)) ∙ ap length (mirror-parts _ _ (listsOf d) (lawful-good l)) ∙ length-map (listsOf d .parts) _;
       }))

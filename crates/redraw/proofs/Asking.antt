@@ -1,9 +1,11 @@
 -- What is asked decides whether the edit is refused or made.
 use Prim.Native.Nat.{ℕ}
-use mathlib.Core.Bool.{Bool, true, false, cond, not}
-use mathlib.Core.Path.{_≡_, refl, sym, subst}
+use mathlib.Core.Bool.{Bool, true, false, cond}
+use mathlib.Core.Path.{_≡_, refl, sym, subst, _∙_}
+use borrow.Author.Tests.{eq-eqb, ne-eqb}
 use lib.IntN.{ℤ}
 use Rattle.lists.specs.Lists.{any}
+use Rattle.lists.specs.First.{firstRow}
 use Rattle.lists.proofs.Tests.{Reads, pass, fail, eqb-reads}
 use Rattle.edge.specs.Coordinates.{toℕ}
 use Rattle.symbol.specs.Replies.{wireReply, pointerReply, componentReply}
@@ -20,7 +22,7 @@ use Rattle.asked.specs.declared.AskedPointer.{AskedPointer}
 use Rattle.asked.specs.Asked.{wireAt, noWire, askedWire, componentAt, noPart, askedPart, pointAt, noPointer, askedPointer}
 use Rattle.edits.specs.Making.{quiet}
 use Rattle.redraw.specs.declared.Edited.{Edited}
-use Rattle.redraw.specs.Calls.{refused, refusedUnless, edited, addWire, addComponent, pointed}
+use Rattle.redraw.specs.Calls.{refusedAt, refused, refusedBy, refusedUnless, refusedTouching, edited, addWire, addComponent, pointed}
 
 -- the reply n decides the call: refused, or x
 pub record Decides (d : Drawing) (t : Tally) (n : ℕ) (x call : Edited) : Type 0 where
@@ -33,6 +35,9 @@ module _ {d : Drawing} {t : Tally} where
 
   not-made : {n : ℕ} {x : Edited} → (n ≡ 0 → ⊥) → Decides d t n x (refused n d t)
   not-made f = record { refuses = λ g. refl; makes = λ e. absurd (f e) }
+
+  pub decides : (n : ℕ) (x : Edited) → Decides d t n x (refusedBy n d t x)
+  decides n x = record { refuses = λ f. rw (ne-eqb n 0 f); makes = λ e. rw (eq-eqb n 0 e) }
 
 pub wire-decides : (d : Drawing) (v : Bool) (l s e : ℤ) (t : Tally) {a : AskedWire} → a ≡ askedWire v l s e → Decides d t (a .reply) (edited d t (quiet (wire (a .wire) (listsOf d)))) (addWire d v l s e t)
 unfolding addWire askedWire
@@ -50,7 +55,7 @@ wire-decides d v l s e t q = subst (λ (a : AskedWire). Decides d t (a .reply) (
 
 -- the component that is asked for is refused if it touches another
 abbrev pub untouched : Drawing → Tally → AskedPart → Edited
-untouched d t a = refusedUnless (not (any (touches (a .part)) (listsOf d .parts))) 6 d t (edited d t (quiet (placeOne (a .part) (listsOf d))))
+untouched d t a = refusedTouching (a .part) d t (edited d t (quiet (placeOne (a .part) (listsOf d))))
 
 pub part-decides : (d : Drawing) (k : ℕ) (o : ℕ) (x y : ℤ) (l : Label) (t : Tally) {a : AskedPart} → a ≡ askedPart k o x y l → Decides d t (a .reply) (untouched d t a) (addComponent d k o x y l t)
 unfolding addComponent askedPart
@@ -64,8 +69,8 @@ part-decides d k o x y l t q = subst (λ (a : AskedPart). Decides d t (a .reply)
     go (fail f) = not-made f
 
 module _ (d : Drawing) (t : Tally) (a : AskedPart) where
-  pub touched-refused : any (touches (a .part)) (listsOf d .parts) ≡ true → refused 6 d t ≡ untouched d t a
-  touched-refused e = rw e
+  pub touched-refused : {row : ℕ} → row ≡ firstRow (touches (a .part)) (listsOf d .parts) → any (touches (a .part)) (listsOf d .parts) ≡ true → refusedAt row 6 d t ≡ untouched d t a
+  touched-refused q e = (λ i. refusedAt (q i) 6 d t) ∙ rw e
 
   pub untouched-edited : any (touches (a .part)) (listsOf d .parts) ≡ false → edited d t (quiet (placeOne (a .part) (listsOf d))) ≡ untouched d t a
   untouched-edited e = rw e

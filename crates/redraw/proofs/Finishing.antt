@@ -1,11 +1,11 @@
--- From what an edit made to its answer: 7 where there is no room, else the drawing of the sheet and its tally.
+-- From what an edit made to its answer: 7 or 11 where there is no room, else the drawing of the sheet and its tally.
+use Prim.Native.Nat.{ℕ}
 use native.Mathlib.Omega.{arith}
-use mathlib.Core.Bool.{true, false}
-use mathlib.Core.List.{List, List·Memᴰ·not-nil as ∈-nil}
+use mathlib.Core.List.{List, [], List·Memᴰ·not-nil as ∈-nil}
 use mathlib.Core.Path.{_≡_, refl, sym, ap, subst, _∙_}
 use Rattle.lists.specs.Lists.{_∈_}
-use Rattle.lists.proofs.Tests.{choose, stable, clash}
 use Rattle.lists.proofs.Tables.{holds-self, holds-list}
+use Rattle.symbol.specs.Replies.{granted}
 use Rattle.sheet.specs.declared.Component.{Component}
 use Rattle.sheet.specs.declared.Wires.{Wires}
 use Rattle.sheet.specs.declared.Components.{Components}
@@ -20,19 +20,19 @@ use Rattle.wires.specs.Tables.{Tabled}
 use Rattle.parts.specs.Tables.{TabledParts}
 use Rattle.joints.specs.Tables.{sheetOf, Sound, Counted}
 use Rattle.edits.specs.declared.Made.{Made}
-use Rattle.edits.specs.Making.{tables, made}
-use Rattle.edits.proofs.Making.{roomy-reads, made-room, made-none}
+use Rattle.edits.specs.Making.{roomReply, tables, noRoom, made}
+use Rattle.edits.proofs.Making.{Room, enough, parts-over, wires-over, room-told, room-is, room-zero, made-by, made-reply}
 use Rattle.redraw.specs.declared.Edited.{Edited}
 use Rattle.redraw.specs.Calls.{refused, editDone, edited}
+use Rattle.redraw.proofs.Asking.{Decides, decides}
 
 module _ (d : Drawing) (t : Tally) (o : Outcome) where
-  pub edited-room : Roomy (o .sheet) → edited d t o ≡ editDone o
+  room-decides : Decides d t (roomReply (o .sheet)) (editDone o) (edited d t o)
   unfolding edited
-  edited-room r = choose (roomy-reads (o .sheet)) (λ (x : Edited). x ≡ editDone o) (λ _. refl) (λ f. absurd (f r))
+  room-decides = decides (roomReply (o .sheet)) (editDone o)
 
-  pub edited-none : (Roomy (o .sheet) → ⊥) → edited d t o ≡ refused 7 d t
-  unfolding edited
-  edited-none f = choose (roomy-reads (o .sheet)) (λ (x : Edited). x ≡ refused 7 d t) (λ r. absurd (f r)) (λ _. refl)
+  pub edited-room : Roomy (o .sheet) → edited d t o ≡ editDone o
+  edited-room r = sym (room-decides .makes (room-is (enough r)))
 
 -- ---- tables of a sheet
 
@@ -49,11 +49,15 @@ tables-sound s r fits =
 -- what an edit made can be drawn
 pub made-sound : (o : Outcome) → ((c : Component) → c ∈ o .sheet .parts → PartFits c) → {e : Made} → e ≡ made o → Sound (e .wires) (e .parts)
 unfolding made
-made-sound o fits q =
-    subst (λ (x : Made). Sound (x .wires) (x .parts)) (sym q)
-    (choose (roomy-reads (o .sheet)) (λ (x : Made). Sound (x .wires) (x .parts))
-    (λ r. tables-sound (o .sheet) r fits)
-    (λ _. tables-sound emptySheet (record { wires = omega arith; parts = omega arith }) (λ c m. absurd (∈-nil m))))
+made-sound o each q = subst (λ (x : Made). Sound (x .wires) (x .parts)) (sym q) (go (room-told (o .sheet)))
+  where
+    none : Sound (wireTable []) (componentTable [])
+    none = tables-sound emptySheet (record { wires = omega arith; parts = omega arith }) (λ c m. absurd (∈-nil m))
+
+    go : {n : ℕ} → Room (o .sheet) n → let x : Made = granted n noRoom (tables o) in Sound (x .wires) (x .parts)
+    go (enough r) = tables-sound (o .sheet) r each
+    go (parts-over p) = none
+    go (wires-over p w) = none
 
 pub sound-counted : {ws : Wires} {cs : Components} {w : Drawing} → Sound ws cs → w ≡ drawn (sheetOf ws cs) → Counted w
 unfolding drawn
@@ -62,15 +66,18 @@ sound-counted {ws} {cs} s e = subst Counted (sym e) (record { wires = s .wires .
 -- ---- the answer
 
 module _ (d : Drawing) (t : Tally) {e : Made} (o : Outcome) (q : e ≡ made o) where
-  pub finished-full : e .full ≡ true → refused 7 d t ≡ edited d t o
-  finished-full f = sym (edited-none d t o (λ r. clash f (ap (λ (x : Made). x .full) (q ∙ made-room o r))))
+  reply-is : e .reply ≡ roomReply (o .sheet)
+  reply-is = ap (λ (x : Made). x .reply) q ∙ made-reply o
 
-  has-room : e .full ≡ false → Roomy (o .sheet)
-  has-room f = stable (roomy-reads (o .sheet)) (λ n. clash (ap (λ (x : Made). x .full) (q ∙ made-none o n)) f)
+  pub finished-full : (e .reply ≡ 0 → ⊥) → refused (e .reply) d t ≡ edited d t o
+  finished-full f = (λ i. refused (reply-is i) d t) ∙ room-decides d t o .refuses (λ z. f (reply-is ∙ z))
 
-  pub finished-room : {w : Drawing} {u : Tally} → e .full ≡ false → w ≡ drawn (sheetOf (e .wires) (e .parts)) → u ≡ tallyOf (listsOf w) → _≡_ {A = Edited} (record { reply = 0; tally = u; drawing = w; hit = e .hit; lost = e .lost }) (edited d t o)
+  has-room : e .reply ≡ 0 → Roomy (o .sheet)
+  has-room z = room-zero (sym reply-is ∙ z)
+
+  pub finished-room : {w : Drawing} {u : Tally} → e .reply ≡ 0 → w ≡ drawn (sheetOf (e .wires) (e .parts)) → u ≡ tallyOf (listsOf w) → _≡_ {A = Edited} (record { reply = 0; tally = u; drawing = w; hit = e .hit; lost = e .lost; row = 0 }) (edited d t o)
   finished-room {w} {u} f p k =
-      let m : e ≡ tables o = q ∙ made-room o (has-room f) in
+      let m : e ≡ tables o = q ∙ made-by o (enough (has-room f)) in
       let a : w ≡ drawn (o .sheet) = p ∙ ap (λ (x : Made). drawn (sheetOf (x .wires) (x .parts))) m ∙ ap drawn (tables-sheet (o .sheet)) in
       let b : u ≡ tallyOf (o .sheet) = k ∙ ap (λ (x : Drawing). tallyOf (listsOf x)) a ∙ ap tallyOf (drawn-lists (o .sheet)) in
-      (λ i. record { reply = 0; tally = b i; drawing = a i; hit = m i .hit; lost = m i .lost }) ∙ sym (edited-room d t o (has-room f))
+      (λ i. record { reply = 0; tally = b i; drawing = a i; hit = m i .hit; lost = m i .lost; row = 0 }) ∙ sym (edited-room d t o (has-room f))

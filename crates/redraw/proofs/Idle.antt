@@ -1,10 +1,10 @@
--- What edits do not do: lose more than they hit; find no room for a delete; change a drawing by a wire of zero length, or where nothing is
+-- What edits do not do: lose more than they hit; need more room for a delete; change a drawing by a wire of zero length, or where nothing is
 -- met.
-use Prim.Native.Nat.{ℕ, _≤_, _<_}
+use Prim.Native.Nat.{ℕ, _≤_}
 use native.Mathlib.Omega.{arith}
-use mathlib.Core.Bool.{Bool, true, false, _&&_, not}
+use mathlib.Core.Bool.{Bool, true, not}
 use mathlib.Core.List.{List}
-use mathlib.Core.Path.{_≡_, refl, sym, ap, subst, _∙_}
+use mathlib.Core.Path.{_≡_, refl, sym, ap, _∙_}
 use lib.Dec.{T, eqb}
 use lib.IntN.{ℤ}
 use lib.Signed.{leZ, ≤ℤ-refl}
@@ -14,7 +14,6 @@ use Rattle.lists.proofs.Tests.{agree}
 use Rattle.edge.specs.Coordinates.{toℕ, ranged, sizeOf}
 use Rattle.symbol.specs.declared.Point.{Point}
 use Rattle.symbol.specs.Replies.{pointReply, wireReply, pointerReply}
-use Rattle.symbol.proofs.Replies.{pointer-nested}
 use Rattle.sheet.specs.declared.Wire.{Wire}
 use Rattle.sheet.specs.declared.Component.{Component}
 use Rattle.sheet.specs.declared.Drawing.{Drawing}
@@ -35,19 +34,13 @@ use Rattle.redraw.specs.declared.Edited.{Edited}
 use Rattle.redraw.specs.declared.pointer.Act.{Act}
 use Rattle.redraw.specs.declared.pointer.Act.the-variants.{Delete, TurnRight, Mirror}
 use Rattle.redraw.specs.Acts.{acted}
-use Rattle.redraw.specs.Calls.{still, refused, refusedUnless, edited, addWire, pointed, deleteAt}
+use Rattle.redraw.specs.Calls.{still, edited, addWire, pointed}
 use Rattle.redraw.proofs.Finishing.{edited-room}
 use Rattle.redraw.proofs.Asking.{pointer-decides}
 use Rattle.redraw.proofs.Laws.{by-reply, by-room}
 
 abbrev Outweighed : Edited → Type 0
 Outweighed e = e .lost ≤ e .hit
-
-abbrev NotFull : Edited → Type 0
-NotFull e = e .reply ≡ 7 → ⊥
-
-below-seven : (n : ℕ) → n < 7 → n ≡ 7 → ⊥
-below-seven n h e = omega arith
 
 module _ {d : Drawing} (l : Lawful d) (t : Tally) where
   -- ---- hit and lost
@@ -61,33 +54,21 @@ module _ {d : Drawing} (l : Lawful d) (t : Tally) where
   -- no more are lost than are hit
   pub act-lost : (a : Act) (x y n : ℤ) → pointed d x y n t (λ p m. acted a p m (listsOf d)) .lost ≤ pointed d x y n t (λ p m. acted a p m (listsOf d)) .hit
   act-lost a x y n =
-      by-reply Outweighed (pointer-decides d x y n t (λ p m. acted a p m (listsOf d)) refl) (λ f. omega arith) (λ z. by-room Outweighed (acted a _ _ (listsOf d)) (omega arith) (λ r. acted-lost a _ _ (listsOf d)))
+      by-reply Outweighed (pointer-decides d x y n t (λ p m. acted a p m (listsOf d)) refl) (λ f. omega arith) (λ z. by-room Outweighed (acted a _ _ (listsOf d)) (λ p. omega arith) (λ p w. omega arith) (λ r. acted-lost a _ _ (listsOf d)))
 
   -- ---- a delete always has room
 
-  delete-room : (p : Point) (n : ℕ) → Roomy (delete p n (listsOf d))
+  pub delete-room : (p : Point) (n : ℕ) → Roomy (delete p n (listsOf d))
   unfolding delete
   delete-room p n = record {
     wires = omega (arith, remove-no-longer (meetsWire p n) (meetsPart p n) (listsOf d), lawful-room l .wires);
     parts = unfold remove in omega (arith, length-keep (λ c. not (meetsPart p n c)) (listsOf d .parts), lawful-room l .parts);
   }
 
-  pub delete-roomy : (x y n : ℤ) → deleteAt d x y n t .reply ≡ 7 → ⊥
-  unfolding deleteAt pointed
-  delete-roomy x y n =
-      let o = quiet (delete (pointAt x y) (toℕ n) (listsOf d)) in
-      subst NotFull (sym (pointer-nested (λ r. refused r d t) (edited d t o) x y n))
-      (go (ranged 6000 x && ranged 6000 y) (eqb (sizeOf n .reply) 0) (edited d t o) (subst NotFull (sym (edited-room d t o (delete-room (pointAt x y) (toℕ n)))) (below-seven 0 (omega arith))))
-    where
-      go : (a b : Bool) (e : Edited) → NotFull e → NotFull (refusedUnless a 1 d t (refusedUnless b 3 d t e))
-      go true true e r = r
-      go true false e r = below-seven 3 (omega arith)
-      go false b e r = below-seven 1 (omega arith)
-
   -- ---- nothing changes
 
   pub still-is : Sized d → edited d t (quiet (listsOf d)) ≡ still d
-  still-is z = edited-room d t (quiet (listsOf d)) (lawful-room l) ∙ (λ i. record { reply = 0; tally = tallyOf (listsOf d); drawing = sym (lawful-drawn l z) i; hit = 0; lost = 0 })
+  still-is z = edited-room d t (quiet (listsOf d)) (lawful-room l) ∙ (λ i. record { reply = 0; tally = tallyOf (listsOf d); drawing = sym (lawful-drawn l z) i; hit = 0; lost = 0; row = 0 })
 
   -- "A zero-length wire inside the range gives 0 and the drawing as it was"
   pub wire-idle : Sized d → (v : Bool) (a s : ℤ) → ranged 6000 a ≡ true → ranged 6000 s ≡ true → addWire d v a s s t ≡ still d

@@ -8,12 +8,13 @@ use crate::refused;
 use asked::asked_part;
 use edits::place::place;
 use label::Label;
-use parts::touch::touches_any;
+use parts::touch::first_touched;
 use sheet::Drawing;
 use sheet::Tally;
 
-// "Place." Two wrong answers that this rules out: a component acknowledged and not placed (component_only_acknowledged), and 7 for one
-// whose box shares a point with a placed one (six_told_as_seven).
+// "Place.", and for 6 the first row touched. Wrong answers that this rules out: a component acknowledged and not placed
+// (component_only_acknowledged), 7 for one whose box shares a point with a placed one (six_told_as_seven), row 1 for the first
+// (first_row_is_one).
 pub fn add_component_on(
     d: Drawing,
     kind: u8,
@@ -33,8 +34,11 @@ pub fn add_component_on(
     let c = a.part;
     let ws = d.wires;
     let cs = d.components;
-    if touches_any(cs, c) {
-        return refused(6, d, t);
+    let row = first_touched(cs, c);
+    if row < cs.count {
+        let mut e = refused(6, d, t);
+        e.row = row as u16;
+        return e;
     }
     let e = place(ws, cs, c);
     finished(d, t, e)

@@ -14,17 +14,19 @@ use joints::tally::tally;
 use sheet::Drawing;
 use sheet::Tally;
 
-// The reply to an edit: its number, the tally and the drawing after it, and how many contacts were hit and lost.
+// The reply to an edit: its number, the tally and the drawing after it, how many contacts were hit and lost, and for reply 6 the row of the
+// first component that the new one touches.
 pub struct Edited {
     pub reply: u8,
     pub tally: Tally,
     pub drawing: Drawing,
     pub hit: u32,
     pub lost: u32,
+    pub row: u16,
 }
 
-// "A refused edit returns the drawing received, with hit and lost 0" (not refusal_tells_a_hit); the tally keeps its old content, and is not
-// emptied (refusal_empties_the_tally).
+// "A refused edit returns the drawing received, with hit and lost 0" (not refusal_tells_a_hit), and no row (row_told_for_seven); the tally
+// keeps its old content, and is not emptied (refusal_empties_the_tally).
 pub fn refused(reply: u8, d: Drawing, t: Tally) -> Edited
     ensures { λ r. ⌜ r ≡ Calls.refused reply d t ⌝ }
 {
@@ -34,16 +36,17 @@ pub fn refused(reply: u8, d: Drawing, t: Tally) -> Edited
         drawing: d,
         hit: 0,
         lost: 0,
+        row: 0,
     }
 }
 
-// The drawing of what an edit made, and its tally; or 7, where there is no room.
+// The drawing of what an edit made, and its tally; or 7 or 11, where there is no room.
 pub(crate) fn finished(d: Drawing, t: Tally, e: Made) -> Edited
     requires { ⌜ Sound (e .wires) (e .parts) ⌝ }
     ensures { λ r. ⌜ ((o : Outcome) → e ≡ made o → r ≡ Calls.edited d t o) ⌝ }
 {
-    if e.full {
-        return refused(7, d, t);
+    if e.reply != 0 {
+        return refused(e.reply, d, t);
     }
     let ws = e.wires;
     let cs = e.parts;
@@ -55,5 +58,6 @@ pub(crate) fn finished(d: Drawing, t: Tally, e: Made) -> Edited
         drawing,
         hit: e.hit,
         lost: e.lost,
+        row: 0,
     }
 }

@@ -26,7 +26,7 @@ choiceOf (negsuc n) = 8
 
 -- `n` edits nothing
 abbrev pub unedited : Drawing → Tally → Edited
-unedited d t = record { reply = 0; tally = t; drawing = d; hit = 0; lost = 0 }
+unedited d t = record { reply = 0; tally = t; drawing = d; hit = 0; lost = 0; row = 0 }
 
 -- "Order: 10, 9, 4, ..": 10 before the drawing is looked at, 9 before what is asked. Of the line itself only a label is taken, "the rest of
 -- the line".

@@ -40,7 +40,7 @@ replyLine counts reply hit lost = cond counts (counted reply hit lost) (answered
 
 -- the answer of a call that tells the edit e, with so many bytes printed
 abbrev pub toldWith : Edited → ℕ → Stepped
-toldWith e n = record { reply = e .reply; tally = e .tally; drawing = e .drawing; hit = e .hit; lost = e .lost; length = n }
+toldWith e n = record { reply = e .reply; tally = e .tally; drawing = e .drawing; hit = e .hit; lost = e .lost; row = e .row; length = n }
 
 -- the bytes l stand in a buffer behind its first `at`, if they fit there; r is the index behind what was put
 pub record Fitted (old : List ℕ) (at : ℕ) (l new : List ℕ) (r : ℕ) : Type 0 where

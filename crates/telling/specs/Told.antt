@@ -80,7 +80,7 @@ inRoom room a =
 
 -- the edit's part of a call's answer
 abbrev pub outcomeOf : Stepped → Edited
-outcomeOf r = record { reply = r .reply; tally = r .tally; drawing = r .drawing; hit = r .hit; lost = r .lost }
+outcomeOf r = record { reply = r .reply; tally = r .tally; drawing = r .drawing; hit = r .hit; lost = r .lost; row = r .row }
 
 -- the call: what came of the line, and what is printed in front of the lent buffer; "bytes behind it stay"
 pub record Answers (a : After) (old new : List ℕ) (r : Stepped) : Type 0 where

@@ -27,6 +27,7 @@ pub struct Stepped {
     pub drawing: Drawing,
     pub hit: u32,
     pub lost: u32,
+    pub row: u16,
     pub length: usize,
 }
 
@@ -89,6 +90,7 @@ fn told(e: Edited, length: usize) -> Stepped
         drawing,
         hit: e.hit,
         lost: e.lost,
+        row: e.row,
         length,
     }
 }
@@ -162,6 +164,7 @@ pub fn tell(e: Edited, command: Command, out: &mut [u8]) -> Stepped
         drawing,
         hit: e.hit,
         lost: e.lost,
+        row: e.row,
         length,
     }
 }

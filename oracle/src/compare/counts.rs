@@ -16,6 +16,8 @@ pub struct Counts {
     replies: BTreeMap<(char, String), u64>,
     hit: u64,
     lost: u64,
+    /// Where rows are told: those above 0.
+    rows_told: u64,
     most_wires: usize,
     most_components: usize,
 }
@@ -34,9 +36,13 @@ impl Counts {
         }
         let letter = if reply == "10" { '?' } else { line[0] as char };
         *self.replies.entry((letter, reply.to_string())).or_default() += 1;
-        if let [hit, lost] = turned {
-            self.hit += hit.parse::<u64>().unwrap_or_default();
-            self.lost += lost.parse::<u64>().unwrap_or_default();
+        match turned {
+            [word, row] if word == "row" => self.rows_told += u64::from(row != "0"),
+            [hit, lost] => {
+                self.hit += hit.parse::<u64>().unwrap_or_default();
+                self.lost += lost.parse::<u64>().unwrap_or_default();
+            }
+            _ => {}
         }
     }
 
@@ -65,7 +71,11 @@ impl fmt::Display for Counts {
                 .collect();
             writeln!(f, "  {letter}  {}", replies.join(", "))?;
         }
-        writeln!(f, "contacts hit {}, lost {}", self.hit, self.lost)?;
+        if self.rows_told > 0 {
+            writeln!(f, "rows above 0 told {}", self.rows_told)?;
+        } else {
+            writeln!(f, "contacts hit {}, lost {}", self.hit, self.lost)?;
+        }
         writeln!(f, "at most {} wires and {} components", self.most_wires, self.most_components)?;
         write!(
             f,

@@ -1,5 +1,4 @@
 -- Both tables are empty.
-use mathlib.Core.Bool.{true}
 use borrow.Author.Needs.{needs}
 use Rattle.edits.proofs.no_room.Statement.{statement}
 use Rattle.edits.proofs.no_room.Tie as tie
@@ -14,7 +13,7 @@ returns : tie.Need-returns
 returns c =
     let w = c .before .no-wires .ensures in
     let p = c .no-parts .ensures in
-    λ i. record { full = true; wires = record { rows = w .rows-are i; count = w .count-is i }; parts = record { rows = p .rows-are i; count = p .count-is i }; hit = 0; lost = 0 }
+    λ i. record { reply = c .before .before .args .reply; wires = record { rows = w .rows-are i; count = w .count-is i }; parts = record { rows = p .rows-are i; count = p .count-is i }; hit = 0; lost = 0 }
 
 pub no-room-spec : {M : Type 1} → statement M
 no-room-spec = tie.close (tie.spec no-wires-requires no-parts-requires returns)

@@ -15,7 +15,7 @@ drawn-requires : tie.Need-drawn-requires
 drawn-requires c κs = search needs
 
 tally-requires : tie.Need-tally-requires
-tally-requires c κs = sound-counted (c .before .before .before .before .pre) (c .drawn .ensures)
+tally-requires c κs = sound-counted (c .before .before .before .before .before .pre) (c .drawn .ensures)
 
 returns-2 : tie.Need-returns-2
 returns-2 c = λ o q. finished-room _ _ o q (c .before .before .before .before .if1 .left) (c .before .drawn .ensures) (c .tally .ensures)

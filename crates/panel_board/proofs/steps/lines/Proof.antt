@@ -1,22 +1,16 @@
--- `panel_board::run` ends: each line begins behind the one before.
+-- `panel_board::lines` ends: each line begins behind the one before.
 use Prim.Native.Nat.{_≤_, _-_}
 use native.Mathlib.Omega.{arith}
 use lib.ListN.{length}
 use borrow.Author.Needs.{needs}
-use Rattle.panel_board.proofs.steps.run.Statement.{statement}
-use Rattle.panel_board.proofs.steps.run.Tie as tie
+use Rattle.panel_board.proofs.steps.lines.Statement.{statement}
+use Rattle.panel_board.proofs.steps.lines.Tie as tie
 
 abbrev Inv-loop : tie.InvT-loop
-Inv-loop text drawing₀ tally₀ at₀ drawing tally at = at ≤ length text
+Inv-loop text told drawing₀ tally₀ at₀ drawing tally at = at ≤ length text
 
 abbrev μ-loop : tie.MeasureT-loop
-μ-loop text drawing₀ tally₀ at₀ drawing tally at = length text - at
-
-slice-aggregate-put : tie.Need-slice-aggregate-put Inv-loop μ-loop
-slice-aggregate-put c = search needs
-
-put-requires : tie.Need-put-requires Inv-loop μ-loop
-put-requires c κs = search needs
+μ-loop text told drawing₀ tally₀ at₀ drawing tally at = length text - at
 
 loop-holds : tie.Need-loop-holds Inv-loop μ-loop
 loop-holds c = omega arith
@@ -51,14 +45,12 @@ loop-again c = omega arith
 returns-2 : tie.Need-returns-2 Inv-loop μ-loop
 returns-2 c = search needs
 
-pub run-spec : {M : Type 1} → statement M
-run-spec =
+pub lines-spec : {M : Type 1} → statement M
+lines-spec =
     tie.close
     (tie.spec
     Inv-loop
     μ-loop
-    slice-aggregate-put
-    put-requires
     loop-holds
     line-end-requires
     sub-answer
