@@ -1,2 +1,3 @@
 pub mod Request14
 pub mod ExistingWire
+pub mod Request4
