@@ -2,3 +2,4 @@ pub mod Numbers
 pub mod Building
 pub mod Rowing
 pub mod Timing
+mod Filing

@@ -1,8 +1,8 @@
 -- The answers by the number of the call, and one call made again.
-use Prim.Native.Nat.{ℕ, zero, suc, _+_, _<_, _≤_, _%_}
+use Prim.Native.Nat.{ℕ, suc, _+_, _<_, _≤_, _%_}
 use native.Mathlib.Omega.{arith}
 use mathlib.Core.List.{List}
-use mathlib.Core.Path.{_≡_, refl, sym, ap, subst, _∙_}
+use mathlib.Core.Path.{_≡_, refl, ap, subst, _∙_}
 use borrow.Author.Tests.{lt-ltb, le-ltb, eq-eqb, ne-eqb}
 use lib.IntN.{ℤ}
 use lib.ListN.{getD, replicate}
@@ -13,11 +13,12 @@ use Rattle.rules.specs.Check.{checkOf}
 use Rattle.redraw.specs.declared.Edited.{Edited}
 use Rattle.schematic.specs.Calls.{checked}
 use Rattle.loose_pads.specs.Counting.{looseOf}
-use Rattle.netlist.specs.Listing.{listOf}
+use Rattle.listing.specs.Listing.{listOf}
+use Rattle.text.specs.Answers.{bufferOf}
 use Rattle.netlist.specs.Answers as netlist
-use Rattle.netlist.specs.declared.LooseCount.{LooseCount}
 use Rattle.bench_calls.specs.Numbered.{editOf}
 use Rattle.bench_calls.specs.Tables.{tableAnswer}
+use Rattle.bench_calls.specs.Files.{fileAnswer}
 use Rattle.bench_calls.specs.Timed.{evenTally, editAnswer, listAnswer, timedLoose, timedAnswer, again}
 
 module _ (call what : ℕ) (x y z : ℤ) (d : Drawing) (last : ℕ) where
@@ -56,9 +57,13 @@ module _ (call what : ℕ) (x y z : ℤ) (d : Drawing) (last : ℕ) where
   unfolding timedAnswer
   by-loose a b e h = rw (le-ltb call 2 a, le-ltb call 4 b, le-ltb call 6 e, lt-ltb call 8 h) refl
 
-  pub by-table : 2 ≤ call → 4 ≤ call → 6 ≤ call → 8 ≤ call → tableAnswer call x y z d ≡ timedAnswer call what x y z d last
+  pub by-table : 2 ≤ call → 4 ≤ call → 6 ≤ call → 8 ≤ call → call < 17 → tableAnswer call x y z d ≡ timedAnswer call what x y z d last
   unfolding timedAnswer
-  by-table a b e h = rw (le-ltb call 2 a, le-ltb call 4 b, le-ltb call 6 e, le-ltb call 8 h) refl
+  by-table a b e f h = rw (le-ltb call 2 a, le-ltb call 4 b, le-ltb call 6 e, le-ltb call 8 f, lt-ltb call 17 h) refl
+
+  pub by-file : 2 ≤ call → 4 ≤ call → 6 ≤ call → 8 ≤ call → 17 ≤ call → fileAnswer call d last ≡ timedAnswer call what x y z d last
+  unfolding timedAnswer
+  by-file a b e f h = rw (le-ltb call 2 a, le-ltb call 4 b, le-ltb call 6 e, le-ltb call 8 f, le-ltb call 17 h) refl
 
 -- ---- loose pads
 
@@ -72,7 +77,7 @@ module _ (call : ℕ) (d : Drawing) where
   loose-checked f = rw (ne-eqb call 6 f) refl
 
   module _ (last : ℕ) {out : List ℕ} where
-    pub list-lawful : call ≡ 4 → out ≡ netlist.bufferOf (listOf (listsOf d)) (replicate 7936 0) → getD out (last % 7936) 0 ≡ listAnswer call d last
+    pub list-lawful : call ≡ 4 → out ≡ bufferOf (listOf (listsOf d)) (replicate 7936 0) → getD out (last % 7936) 0 ≡ listAnswer call d last
     unfolding listAnswer
     list-lawful k q = ap (λ (l : List ℕ). getD l (last % 7936) 0) q ∙ rw (eq-eqb call 4 k) refl
 

@@ -1,3 +1,4 @@
 pub mod Numbered
 pub mod Tables
+pub mod Files
 pub mod Timed

@@ -12,11 +12,13 @@ use Rattle.rules.specs.Check.{checkOf}
 use Rattle.redraw.specs.declared.Edited.{Edited}
 use Rattle.schematic.specs.Calls.{checked}
 use Rattle.loose_pads.specs.Counting.{looseOf}
-use Rattle.netlist.specs.Listing.{listOf}
+use Rattle.listing.specs.Listing.{listOf}
 use Rattle.netlist.specs.Answers as netlist
-use Rattle.netlist.specs.Answers.{bufferOf, netlistIn}
+use Rattle.text.specs.Answers.{bufferOf}
+use Rattle.netlist.specs.Answers.{netlistIn}
 use Rattle.bench_calls.specs.Numbered.{editOf}
 use Rattle.bench_calls.specs.Tables.{tableAnswer}
+use Rattle.bench_calls.specs.Files.{fileAnswer}
 
 -- ---- the drawing
 
@@ -61,14 +63,16 @@ listAnswer call d last =
 unfoldable pub timedLoose : ℕ → Drawing → ℕ
 timedLoose call d = cond (eqb call 6) (looseOf (listsOf d)) (netlist.looseAnswer d .count)
 
--- 2 is the plain check and 3 the check of public calls: the first broken rule, by either; from 8 on an operation on tables
+-- 2 is the plain check and 3 the check of public calls: the first broken rule, by either; from 8 on an operation on tables,
+-- from 17 on a saved drawing
 unfoldable pub timedAnswer : ℕ → ℕ → ℤ → ℤ → ℤ → Drawing → ℕ → ℕ
 timedAnswer call what x y z d last =
     cond (ltb call 2) (editAnswer call what x y z d last)
     (cond (ltb call 4) (checkOf d .rule)
     (cond (ltb call 6) (listAnswer call d last)
     (cond (ltb call 8) (timedLoose call d)
-    (tableAnswer call x y z d))))
+    (cond (ltb call 17) (tableAnswer call x y z d)
+    (fileAnswer call d last)))))
 
 -- f so many times, from the answer a on
 unfoldable pub again : ℕ → (ℕ → ℕ) → ℕ → ℕ

@@ -1,12 +1,12 @@
 // One timed call: its answer as one number, which hangs on the answer before.
 ghost use mathlib.Core.Path.{_≡_};
 ghost use Prim.Native.Nat.{_%_};
-ghost use lib.ListN.{getD, replicate};
 ghost use Rattle.sheet.specs.Rules.{Lawful};
 ghost use Rattle.rules.specs.Check.{checkOf};
 ghost use Rattle.bench_calls.specs.Timed.{evenTally, editAnswer, listAnswer, timedLoose, timedAnswer};
 use crate::edits::edit_checked;
 use crate::edits::edit_on;
+use crate::files::file_answer;
 use crate::tables::table_answer;
 use netlist::build_netlist;
 use netlist::loose;
@@ -15,7 +15,7 @@ use netlist::write_list_on;
 use sheet::Drawing;
 use sheet::Tally;
 
-fn number_of_byte(b: u8) -> u32
+pub(crate) fn number_of_byte(b: u8) -> u32
     ensures { λ r. ⌜ r ≡ b ⌝ }
 {
     b as u32
@@ -102,5 +102,8 @@ pub fn answer(call: u8, d: Drawing, what: u8, x: i32, y: i32, z: i32, last: u32)
     if call < 8 {
         return loose_answer(call, d);
     }
-    table_answer(call, d, x, y, z)
+    if call < 17 {
+        return table_answer(call, d, x, y, z);
+    }
+    file_answer(call, d, last)
 }

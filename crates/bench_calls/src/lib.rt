@@ -1,6 +1,7 @@
 // What a timing calls: a drawing built by edits, and then one call so many times on that drawing.
 pub mod answers;
 pub mod edits;
+pub mod files;
 pub mod tables;
 
 ghost use mathlib.Core.Path.{_≡_};
@@ -10,9 +11,9 @@ ghost use Rattle.sheet.specs.Rules.{Lawful};
 ghost use Rattle.bench_calls.specs.Timed.{afterEdit, builtBy, timedAnswer, again};
 use crate::answers::answer;
 use crate::edits::edit_on;
+use empty::empty_drawing;
 use sheet::Drawing;
 use sheet::Tally;
-use step::empty_drawing;
 
 // The byte at a place, and 0 past the end.
 fn byte_at(bytes: &[u8], i: usize) -> u8

@@ -12,8 +12,8 @@ use Rattle.sheet.specs.declared.Component.{Component}
 use Rattle.sheet.specs.declared.Tally.{Tally}
 use Rattle.sheet.specs.declared.Drawing.{Drawing}
 use Rattle.sheet.specs.Drawings.{wireRows, jointRows, componentRows}
-pub use Rattle.text.specs.Text.{Space}
 use Rattle.text.specs.Text.{Put, decimalOf, signedOf}
+pub use Rattle.text.specs.Text.{Space}
 
 -- ---- words: `T`, `W`, `J`, `C`, `h`, `v`, `.`, space and newline are the bytes 84, 87, 74, 67, 104, 118, 46, 32 and 10
 
@@ -52,10 +52,14 @@ unfoldable pub componentLine : Component → List ℕ
 componentLine c =
     67 ∷ (countWord (c .kind) ++ (countWord (c .orientation) ++ (coordinateWord (c .x) ++ (coordinateWord (c .y) ++ (labelWord (c .label) ++ (10 ∷ []))))))
 
--- ---- the whole, the rows "in row order", then a line `.`
+-- ---- the whole, the rows "in row order"
 
+unfoldable pub rowLines : Tally → Drawing → List ℕ
+rowLines t d = tallyLine t ++ (gather wireLine (wireRows (d .wires)) ++ (gather jointLine (jointRows (d .joints)) ++ gather componentLine (componentRows (d .components))))
+
+-- and then a line `.`
 unfoldable pub rowsOf : Tally → Drawing → List ℕ
-rowsOf t d = tallyLine t ++ (gather wireLine (wireRows (d .wires)) ++ (gather jointLine (jointRows (d .joints)) ++ (gather componentLine (componentRows (d .components)) ++ (46 ∷ 10 ∷ []))))
+rowsOf t d = rowLines t d ++ (46 ∷ 10 ∷ [])
 
 -- ---- what a function that puts bytes tells: the bytes, and that there are at most so many
 

@@ -3,7 +3,7 @@ mod rows;
 mod tables;
 
 ghost use Rattle.sheet.specs.Rules.{Lawful};
-ghost use Rattle.dump.specs.Rows.{rowsOf, Puts, Space};
+ghost use Rattle.dump.specs.Rows.{rowLines, rowsOf, Puts, Space};
 use rows::put_tally;
 use sheet::Drawing;
 use sheet::Tally;
@@ -12,11 +12,11 @@ use tables::put_joints;
 use tables::put_wires;
 use text::put_byte;
 
-// The tally, each wire, joint and component, and the line that ends them: 53,296 bytes always suffice. Two wrong answers that this
-// rules out: a wire's end told before its start (start_and_end_swapped), and an empty label without its space (label_without_space).
-pub fn put_rows(out: &mut [u8], at: usize, t: Tally, d: Drawing) -> usize
-    requires { ⌜ Lawful d ⌝ ∗ ⌜ Space at 53296 ⌝ }
-    ensures { λ r. ⌜ Puts 53296 (now (out .entry)) at (rowsOf t d) (now (out .exit)) r ⌝ }
+// The tally, each wire, joint and component: 53,294 bytes always suffice. Two wrong answers that this rules out: a wire's end told before its
+// start (start_and_end_swapped), and an empty label without its space (label_without_space).
+pub fn put_row_lines(out: &mut [u8], at: usize, t: Tally, d: Drawing) -> usize
+    requires { ⌜ Lawful d ⌝ ∗ ⌜ Space at 53294 ⌝ }
+    ensures { λ r. ⌜ Puts 53294 (now (out .entry)) at (rowLines t d) (now (out .exit)) r ⌝ }
 {
     let ws = d.wires;
     let js = d.joints;
@@ -24,7 +24,15 @@ pub fn put_rows(out: &mut [u8], at: usize, t: Tally, d: Drawing) -> usize
     let p = put_tally(out, at, t);
     let p = put_wires(out, p, ws);
     let p = put_joints(out, p, js);
-    let p = put_components(out, p, cs);
+    put_components(out, p, cs)
+}
+
+// The same, and the line that ends them.
+pub fn put_rows(out: &mut [u8], at: usize, t: Tally, d: Drawing) -> usize
+    requires { ⌜ Lawful d ⌝ ∗ ⌜ Space at 53296 ⌝ }
+    ensures { λ r. ⌜ Puts 53296 (now (out .entry)) at (rowsOf t d) (now (out .exit)) r ⌝ }
+{
+    let p = put_row_lines(out, at, t, d);
     let p = put_byte(out, p, b'.');
     put_byte(out, p, b'\n')
 }

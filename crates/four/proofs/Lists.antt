@@ -11,7 +11,7 @@ use Rattle.sheet.specs.Drawings.{Sheet}
 use Rattle.nets.specs.Numbers.{byNumber, numbersOf}
 use Rattle.net_numbers.specs.Netted.{numberOfJoint, isPower, endsOf, netNumbers}
 use Rattle.loose_pads.specs.Counting.{loosePads, looseOf}
-use Rattle.netlist.specs.Listing.{listWith, nth, entry, listOf}
+use Rattle.listing.specs.Listing.{listWith, nth, entry, listOf}
 use Rattle.four.specs.Plans as Plans
 use Rattle.four.specs.Listing as Four
 use Rattle.four.specs.Request1.{four}

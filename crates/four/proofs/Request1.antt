@@ -10,8 +10,9 @@ use Rattle.rules.specs.Check.{lawful}
 use Rattle.redraw.specs.declared.Edited.{Edited}
 use Rattle.schematic.specs.Calls.{checked}
 use Rattle.loose_pads.specs.Counting.{looseOf}
-use Rattle.netlist.specs.Listing.{listOf}
-use Rattle.netlist.specs.Answers.{toldLength, answerOf, bufferOf, looseCount, netlistOf, netlistIn, looseAnswer}
+use Rattle.listing.specs.Listing.{listOf}
+use Rattle.text.specs.Answers.{toldLength, answerOf, bufferOf}
+use Rattle.netlist.specs.Answers.{looseCount, netlistOf, netlistIn, looseAnswer}
 use Rattle.four.specs.Plans as Plans
 use Rattle.four.specs.Listing as FourListing
 use Rattle.four.specs.Check as FourCheck

@@ -26,9 +26,10 @@ use Rattle.draw.specs.Transforms.{floatPosition, transformOf}
 use Rattle.cad.specs.Answers.{refusedShape}
 use Rattle.sheet.specs.declared.Tally.{Tally}
 use Rattle.asked.specs.Asked.{wireAt, pointAt}
-use Rattle.netlist.specs.declared.Listed.{Listed}
+use Rattle.text.specs.declared.Written.{Written}
+use Rattle.text.specs.Answers.{toldLength, answerOf, bufferOf}
 use Rattle.netlist.specs.declared.LooseCount.{LooseCount}
-use Rattle.netlist.specs.Answers.{toldLength, answerOf, bufferOf, looseCount}
+use Rattle.netlist.specs.Answers.{looseCount}
 use Rattle.four.specs.Plans.{Part, Plan, Drawing, touches, tallyOf, listsOf, drawn}
 use Rattle.four.specs.Edits.{Outcome, wire, placeOne, delete, turnRight, mirror}
 use Rattle.four.specs.Listing.{listOf, looseOf}
@@ -146,7 +147,7 @@ unfoldable pub checked : Drawing → Tally → Edited → Edited
 checked d t e = refusedUnless (lawful d) 9 d t e
 
 -- the list: 9, 8, or 0 with its length
-unfoldable pub netlistOf : Drawing → ℕ → Listed
+unfoldable pub netlistOf : Drawing → ℕ → Written
 netlistOf d room = cond (lawful d) (answerOf (listOf (listsOf d)) room) (toldLength 9 0)
 
 -- what the lent buffer then holds

@@ -10,7 +10,7 @@ use Rattle.nets.specs.Nets.{Net}
 use Rattle.nets.specs.Numbers.{byNumber, numbersOf}
 use Rattle.net_numbers.specs.Netted.{endsOf, numberOfJoint}
 use Rattle.loose_pads.specs.Counting.{loosePads}
-use Rattle.netlist.specs.Listing.{Entry, nth, listWith}
+use Rattle.listing.specs.Listing.{Entry, nth, listWith}
 use Rattle.four.specs.Plans.{Part, Plan, padsOf, joints}
 
 -- what joins the points of a plan: the wires and the power pads

@@ -32,7 +32,7 @@ use Rattle.redraw.specs.declared.Edited.{Edited}
 use Rattle.redraw.specs.Calls.{addWire, addComponent, deleteAt, rotateAt, mirrorAt}
 use Rattle.schematic.specs.Calls.{checked}
 use Rattle.loose_pads.specs.Counting.{looseOf}
-use Rattle.netlist.specs.Listing.{listOf}
+use Rattle.listing.specs.Listing.{listOf}
 use Rattle.netlist.specs.Answers.{netlistOf, netlistIn, looseAnswer}
 use Rattle.four.specs.Four
 

@@ -6,3 +6,4 @@ pub mod Keying
 pub mod Runs
 pub mod Gathering
 pub mod Drawing
+pub mod Lawful

@@ -11,15 +11,16 @@ use Rattle.sheet.specs.Parts.{padsOf}
 use Rattle.sheet.specs.Drawings.{Sized, listsOf}
 use Rattle.sheet.specs.Rules.{Lawful}
 use Rattle.rules.proofs.Check.{lawful-none}
+use Rattle.text.specs.Answers.{answerOf, bufferOf}
 use Rattle.nets.specs.Nets.{Numbered}
 use Rattle.nets.proofs.Same.{same-row}
 use Rattle.net_numbers.specs.Netted.{netOn, netNumbers}
 use Rattle.net_numbers.proofs.Numbered.{numbered}
-use Rattle.netlist.specs.Listing.{entry, listOf}
-use Rattle.netlist.specs.Answers.{netlistOf, netlistIn, answerOf, bufferOf}
+use Rattle.listing.specs.Listing.{entry, listOf}
+use Rattle.netlist.specs.Answers.{netlistOf, netlistIn}
 use Rattle.netlist.specs.Demand3.{Demand3, written, Demand3OfCalls}
-use Rattle.netlist.proofs.Checked.{passes}
-use Rattle.netlist.proofs.Lengths.{list-room}
+use Rattle.rules.proofs.Found.{found-passes}
+use Rattle.listing.proofs.Lengths.{list-room}
 use Rattle.netlist.proofs.Sheets.{lists-told}
 
 pub demand-3 : Demand3
@@ -34,7 +35,7 @@ written-is : {d : Drawing} → Lawful d → Sized d → (buffer : List ℕ) → 
 unfolding netlistOf netlistIn answerOf bufferOf
 written-is {d} l z buffer h =
     let list : List ℕ = listOf (listsOf d) in
-    rw (passes d (lawful-none l) refl, le-leb (length list) (length buffer) (omega (arith, list-room l z))) (take-at list (drop (length list) buffer) (length list) refl)
+    rw (found-passes d (lawful-none l) refl, le-leb (length list) (length buffer) (omega (arith, list-room l z))) (take-at list (drop (length list) buffer) (length list) refl)
 
 pub demand-3-of-calls : Demand3OfCalls
 demand-3-of-calls d e ld le zd ze q a b ha hb =

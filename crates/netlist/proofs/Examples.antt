@@ -19,7 +19,7 @@ use Rattle.text.specs.Text.{digitsIn, decimalOf}
 use Rattle.net_numbers.specs.Netted.{numberOfJoint, netNumbers}
 use Rattle.loose_pads.specs.Loose.{padNames}
 use Rattle.loose_pads.specs.Counting.{occurs, spare, isLoose, numbersFrom, loosePads, looseOf}
-use Rattle.netlist.specs.Listing.{netWord, pinWord, relay, switch, entryLines, linesIn, kindLines, listWith, listOf}
+use Rattle.listing.specs.Listing.{netWord, pinWord, relay, switch, entryLines, linesIn, kindLines, listWith, listOf}
 
 -- the lines are `R N0 K1.A K1.B`, `S K1.A N0 N1` and `S K1.B N0 N2`
 whole-output : listOf script

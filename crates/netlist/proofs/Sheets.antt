@@ -19,7 +19,7 @@ use Rattle.nets.proofs.At.{at-low, at-some, at-get, at-in}
 use Rattle.nets.proofs.Same.{SameNets, same-numbers}
 use Rattle.net_numbers.specs.Netted.{netOn, netNumbers}
 use Rattle.net_numbers.proofs.Numbered.{numbered}
-use Rattle.netlist.specs.Listing.{Entry, entry, padsIn, nth, listWith, listOf}
+use Rattle.listing.specs.Listing.{Entry, entry, padsIn, nth, listWith, listOf}
 use Rattle.netlist.proofs.Told.{padsAll, Agree, Alike, list-told}
 
 -- ---- places in a list

@@ -7,8 +7,8 @@ use Prim.Native.Nat.{ℕ, zero, suc, _+_, _≤_, _<_}
 use native.Mathlib.Omega.{arith}
 use Rattle.lists.specs.Lists.{_∈_}
 use Rattle.lists.proofs.Tests.{Reads, pass, fail, eqb-reads, ltb-reads, compare}
-use Rattle.netlist.specs.Listing.{switch, Entry, padsIn, entryLines, linesIn, kindLines, listWith}
-use Rattle.netlist.proofs.Spelling.{relay-told, switch-told}
+use Rattle.listing.specs.Listing.{switch, Entry, padsIn, entryLines, linesIn, kindLines, listWith}
+use Rattle.listing.proofs.Spelling.{relay-told, switch-told}
 
 -- the pads of all entries
 unfoldable pub padsAll : List Entry → ℕ

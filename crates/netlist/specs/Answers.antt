@@ -1,33 +1,20 @@
 -- What the calls answer, and what the lent buffer holds afterwards.
 use Prim.Native.Nat.{ℕ}
 use mathlib.Core.Bool.{cond}
-use mathlib.Core.List.{List, _++_}
-use lib.Dec.{leb}
-use lib.ListN.{length, drop}
+use mathlib.Core.List.{List}
 use Rattle.sheet.specs.declared.Drawing.{Drawing}
 use Rattle.sheet.specs.Drawings.{listsOf}
 use Rattle.rules.specs.Check.{lawful}
+use Rattle.text.specs.declared.Written.{Written}
+use Rattle.text.specs.Answers.{toldLength, answerOf, bufferOf}
 use Rattle.loose_pads.specs.Counting.{looseOf}
-use Rattle.netlist.specs.declared.Listed.{Listed}
 use Rattle.netlist.specs.declared.LooseCount.{LooseCount}
-use Rattle.netlist.specs.Listing.{listOf}
-
--- a reply, and how many bytes of the lent buffer are the list
-abbrev pub toldLength : ℕ → ℕ → Listed
-toldLength reply length = record { reply = reply; length = length }
-
--- "The written part of the lent buffer is told by its length"; "8: the list is longer than the lent buffer"; "A refusal tells length 0."
-unfoldable pub answerOf : List ℕ → ℕ → Listed
-answerOf list room = cond (leb (length list) room) (toldLength 0 (length list)) (toldLength 8 0)
-
--- the list in front, "bytes behind it stay"; after a refusal the buffer keeps its old content
-unfoldable pub bufferOf : List ℕ → List ℕ → List ℕ
-bufferOf list old = cond (leb (length list) (length old)) (list ++ drop (length list) old) old
+use Rattle.listing.specs.Listing.{listOf}
 
 -- ---- the calls: "9: the lent drawing isn't lawful" comes before 8
 
 -- the answer for a lent buffer of that many bytes: 9, 8, or 0 with the length of the list; "A refusal tells length 0."
-unfoldable pub netlistOf : Drawing → ℕ → Listed
+unfoldable pub netlistOf : Drawing → ℕ → Written
 netlistOf d room = cond (lawful d) (answerOf (listOf (listsOf d)) room) (toldLength 9 0)
 
 -- what the lent buffer then holds; after 9 or 8 "tally and buffer keep their old content"

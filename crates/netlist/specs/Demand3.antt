@@ -12,7 +12,7 @@ use Rattle.sheet.specs.Drawings.{Sized, listsOf}
 use Rattle.sheet.specs.Rules.{Lawful}
 use Rattle.nets.specs.Nets.{SameOn}
 use Rattle.net_numbers.specs.Netted.{netOn}
-use Rattle.netlist.specs.Listing.{listOf}
+use Rattle.listing.specs.Listing.{listOf}
 use Rattle.netlist.specs.Answers.{netlistOf, netlistIn}
 
 -- the same pairs of pads are on one net, and the same pads are fed

@@ -1,4 +1,3 @@
-pub mod Listing
 pub mod Answers
 pub mod Demand3
 pub mod Request2

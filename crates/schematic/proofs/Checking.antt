@@ -1,7 +1,6 @@
 -- The check decides between 9 and the edit.
 use native.Mathlib.Omega.{arith}
-use mathlib.Core.Path.{_≡_, refl, sym, ap, _∙_}
-use borrow.Author.Tests.{eq-eqb, ne-eqb}
+use mathlib.Core.Path.{_≡_, refl}
 use Rattle.lists.proofs.Tests.{choose, reads-as, eqb-reads}
 use Rattle.sheet.specs.declared.Drawing.{Drawing}
 use Rattle.sheet.specs.declared.Tally.{Tally}
@@ -10,26 +9,21 @@ use Rattle.sheet.specs.Rules.{Lawful}
 use Rattle.rules.specs.declared.Checked.{Checked}
 use Rattle.rules.specs.Check.{checkOf}
 use Rattle.rules.proofs.Check.{check-lawful, lawful-none}
+use Rattle.rules.proofs.Found.{found-passes, found-fails}
 use Rattle.redraw.specs.declared.Edited.{Edited}
 use Rattle.redraw.specs.Calls.{refused}
 use Rattle.redraw.proofs.Laws.{Accepted}
 use Rattle.schematic.specs.Calls.{checked}
 
 module _ (d : Drawing) {k : Checked} (q : k ≡ checkOf d) where
-  rule : k .rule ≡ checkOf d .rule
-  rule = ap (λ (x : Checked). x .rule) q
-
-  pub lawful-found : Sized d → k .rule ≡ 0 → Lawful d
-  lawful-found z e = check-lawful d z .0 (sym rule ∙ e)
-
   module _ (t : Tally) (e : Edited) where
     pub unlawful-refused : (k .rule ≡ 0 → ⊥) → refused 9 d t ≡ checked d t e
     unfolding checked
-    unlawful-refused f = rw (ne-eqb (checkOf d .rule) 0 (λ z. f (rule ∙ z)))
+    unlawful-refused f = rw (found-fails d q f)
 
     pub lawful-edited : k .rule ≡ 0 → e ≡ checked d t e
     unfolding checked
-    lawful-edited z = rw (eq-eqb (checkOf d .rule) 0 (sym rule ∙ z))
+    lawful-edited z = rw (found-passes d q z)
 
 -- the call on a lawful drawing is the edit
 pub lawful-passes : {d : Drawing} → Lawful d → (t : Tally) (e : Edited) → e ≡ checked d t e

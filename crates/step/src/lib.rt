@@ -1,15 +1,11 @@
 // One line of a script: what it does to a drawing known to be lawful, and what it prints into a lent buffer.
 ghost use mathlib.Core.Path.{_≡_};
-ghost use Rattle.sheet.specs.Drawings.{emptySheet};
-ghost use Rattle.sheet.specs.Drawings;
 ghost use Rattle.sheet.specs.Rules.{Lawful};
 ghost use Rattle.redraw.specs.Calls.{addComponent};
 ghost use Rattle.label.specs.Labels.{labelOf};
 ghost use Rattle.step.specs.Steps.{choiceOf};
 ghost use Rattle.step.specs.Stepping.{Steps};
-use joints::drawn;
 use label::label_of;
-use parts::no_parts;
 use redraw::Edited;
 use redraw::component::add_component_on;
 use redraw::pointer::delete_on;
@@ -23,7 +19,6 @@ use sheet::Drawing;
 use sheet::Tally;
 use telling::Stepped;
 use telling::tell;
-use wires::no_wires;
 
 // For callers that ask for no tally: no line prints it.
 pub const NO_TALLY: Tally = Tally {
@@ -32,15 +27,6 @@ pub const NO_TALLY: Tally = Tally {
     components: 0,
     ends: 0,
 };
-
-// The drawing that a script starts from.
-pub fn empty_drawing() -> Drawing
-    ensures { λ r. ⌜ (r ≡ Drawings.drawn emptySheet) × Lawful r ⌝ }
-{
-    let ws = no_wires();
-    let cs = no_parts();
-    drawn(ws, cs)
-}
 
 // KIND or ORIENT: 0 to 7, and 8 for any other number.
 fn choice(z: i32) -> u8

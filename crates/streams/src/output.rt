@@ -1,7 +1,8 @@
-// What a program hands to standard output. No contract can say which bytes a system writes, so a sum is kept of all bytes that were
+// What a program hands to standard output and to standard error. No contract can say which bytes a system writes, so a sum is kept of all bytes that were
 // handed over, in their order: the contracts say of which bytes it is the sum.
 ghost use mathlib.Core.Path.{_≡_};
 ghost use Rattle.streams.specs.Sums.{nextSum, sumOf};
+use libc::STDERR_FILENO;
 use libc::STDOUT_FILENO;
 
 // The sum of all that was handed over, and whether a write failed.
@@ -42,4 +43,12 @@ pub fn write_block(sum: u32, block: &[u8]) -> Output
         sum: sum_of(sum, block),
         failed: !taken,
     }
+}
+
+// Hands a block to standard error, behind what was handed over there before: the sum with it. A failure has no other place to be told.
+pub fn tell_block(sum: u32, block: &[u8]) -> u32
+    ensures { λ r. ⌜ r ≡ sumOf sum (now (block .entry)) ⌝ }
+{
+    io::write_all(STDERR_FILENO, block);
+    sum_of(sum, block)
 }

@@ -1,3 +1,4 @@
 -- What the proofs of functions use.
 pub mod Telling
+pub mod Behind
 mod Commands

@@ -13,10 +13,10 @@ use Rattle.lists.proofs.Tests.{decide, choose, leb-reads}
 use Rattle.sheet.specs.Drawings.{listsOf}
 use Rattle.redraw.specs.declared.Edited.{Edited}
 use Rattle.redraw.specs.Calls.{refused}
-use Rattle.netlist.specs.declared.Listed.{Listed}
+use Rattle.text.specs.declared.Written.{Written}
 use Rattle.loose_pads.specs.Counting.{looseOf}
-use Rattle.netlist.specs.Listing.{listOf}
-use Rattle.netlist.specs.Answers.{answerOf, bufferOf}
+use Rattle.listing.specs.Listing.{listOf}
+use Rattle.text.specs.Answers.{answerOf, bufferOf}
 use Rattle.text.specs.Text.{Put}
 use Rattle.text.proofs.Puts.{put-whole, put-none, put-length}
 use Rattle.telling.specs.declared.Stepped.{Stepped}
@@ -127,14 +127,14 @@ told-refused e old {r} f is =
     rw (ne-eqb (e .reply) 0 f) (subst (λ r. Tells (record { outcome = e; list = []; answer = [] }) old old r) (sym is)
     (told-behind e [] [] old refl (omega arith) (fits (omega arith) (omega arith) (put-none old 0 refl)) (omega arith)))
 
-module _ (e : Edited) (zero : e .reply ≡ 0) (old : List ℕ) {mid : List ℕ} {l : Listed} (t : l ≡ answerOf (listOf (listsOf (e .drawing))) (length old))
+module _ (e : Edited) (zero : e .reply ≡ 0) (old : List ℕ) {mid : List ℕ} {l : Written} (t : l ≡ answerOf (listOf (listsOf (e .drawing))) (length old))
     (w : mid ≡ bufferOf (listOf (listsOf (e .drawing))) old) (short : length (listOf (listsOf (e .drawing))) ≤ 7936) where
   -- the list is longer than the buffer
   pub told-eight : {r : Stepped} → (l .reply ≡ 0 → ⊥) → r ≡ toldWith (refused 8 (e .drawing) (e .tally)) 0 → Tells (listedly e) old mid r
   unfolding answerOf bufferOf inRoom
   told-eight {r} f is =
       let list : List ℕ = listOf (listsOf (e .drawing)) in
-      let long : length old < length list = ⊎-elim (λ h. absurd (f (ap (λ (x : Listed). x .reply) (rw (le-leb (length list) (length old) h) at t)))) (λ g. omega (arith, g)) (decide (leb-reads (length list) (length old))) in
+      let long : length old < length list = ⊎-elim (λ h. absurd (f (ap (λ (x : Written). x .reply) (rw (le-leb (length list) (length old) h) at t)))) (λ g. omega (arith, g)) (decide (leb-reads (length list) (length old))) in
       let no : leb (length list) (length old) ≡ false = lt-leb (length list) (length old) long in
       rw (eq-eqb (e .reply) 0 zero) (record {
         answers = rw no (subst (λ r. Answers (record { outcome = refused 8 (e .drawing) (e .tally); list = []; answer = [] }) old mid r) (sym is) (record { outcome = refl; length = refl; bytes = rw no at w }));
@@ -146,9 +146,9 @@ module _ (e : Edited) (zero : e .reply ≡ 0) (old : List ℕ) {mid : List ℕ} 
   unfolding answerOf bufferOf
   list-inside z =
       let list : List ℕ = listOf (listsOf (e .drawing)) in
-      let inside : length list ≤ length old = ⊎-elim (λ h. h) (λ g. absurd (omega (arith, z, ap (λ (x : Listed). x .reply) (rw (lt-leb (length list) (length old) (omega (arith, g))) at t)))) (decide (leb-reads (length list) (length old))) in
+      let inside : length list ≤ length old = ⊎-elim (λ h. h) (λ g. absurd (omega (arith, z, ap (λ (x : Written). x .reply) (rw (lt-leb (length list) (length old) (omega (arith, g))) at t)))) (decide (leb-reads (length list) (length old))) in
       let yes : leb (length list) (length old) ≡ true = le-leb (length list) (length old) inside in
-      let n : l .length ≡ length list = ap (λ (x : Listed). x .length) (rw yes at t) in
+      let n : l .length ≡ length list = ap (λ (x : Written). x .length) (rw yes at t) in
       (omega arith, omega (arith, ap length (rw yes at w), length-append list (drop (length list) old)))
 
   -- the list, and its answer line behind it or left out
@@ -159,10 +159,10 @@ module _ (e : Edited) (zero : e .reply ≡ 0) (old : List ℕ) {mid : List ℕ} 
   told-list {own} {line} {new} {loose} {k} {n} {r} z is-loose p few forty f is =
       let list : List ℕ = listOf (listsOf (e .drawing)) in
       let answer : List ℕ = looseLine (looseOf (listsOf (e .drawing))) in
-      let inside : length list ≤ length old = ⊎-elim (λ h. h) (λ g. absurd (omega (arith, z, ap (λ (x : Listed). x .reply) (rw (lt-leb (length list) (length old) (omega (arith, g))) at t)))) (decide (leb-reads (length list) (length old))) in
+      let inside : length list ≤ length old = ⊎-elim (λ h. h) (λ g. absurd (omega (arith, z, ap (λ (x : Written). x .reply) (rw (lt-leb (length list) (length old) (omega (arith, g))) at t)))) (decide (leb-reads (length list) (length old))) in
       let yes : leb (length list) (length old) ≡ true = le-leb (length list) (length old) inside in
       let is-line : take k line ≡ answer = line-is p (omega (arith, forty)) ∙ ap looseLine is-loose in
-      let fitted : Fitted mid (length list) answer new n = subst (λ a. Fitted mid a answer new n) (ap (λ (x : Listed). x .length) (rw yes at t)) (subst (λ x. Fitted mid (l .length) x new n) is-line f) in
+      let fitted : Fitted mid (length list) answer new n = subst (λ a. Fitted mid a answer new n) (ap (λ (x : Written). x .length) (rw yes at t)) (subst (λ x. Fitted mid (l .length) x new n) is-line f) in
       rw (eq-eqb (e .reply) 0 zero) (subst (λ r. Tells (record { outcome = e; list = list; answer = answer }) old new r) (sym is)
       (told-behind e list answer old (rw yes at w) inside fitted (omega (arith, p .behind, ap (λ x. length (looseLine x)) is-loose))))
 

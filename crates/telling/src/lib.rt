@@ -8,9 +8,9 @@ ghost use Rattle.script.specs.declared.Command.the-variants.{Nets};
 ghost use Rattle.telling.specs.Told;
 ghost use Rattle.telling.specs.Told.{counted, listedly, numbered};
 ghost use Rattle.telling.specs.Fitting.{Fitted, Replied, Tells, asksList, isCounted, replyLine, toldWith};
+use listing::write_list_by;
 use loose_pads::count_loose;
 use net_numbers::pad_numbers;
-use netlist::write_list_by;
 use redraw::Edited;
 use redraw::refused;
 use script::Command;
@@ -32,7 +32,7 @@ pub struct Stepped {
 }
 
 // `<letter> <number>`
-fn put_numbered(line: &mut [u8], letter: u8, n: u32) -> usize
+pub fn put_numbered(line: &mut [u8], letter: u8, n: u32) -> usize
     ensures { λ r. ⌜ Put (now (line .entry)) 0 (numbered letter n) (now (line .exit)) r × (r ≤ 40) ⌝ }
 {
     let p = put_byte(line, 0, letter);

@@ -1,5 +1,6 @@
 -- Laws for whoever puts bytes or numbers.
 pub mod Puts
 pub mod Decimals
+pub mod Buffers
 mod Signs
 mod Examples

@@ -5,6 +5,12 @@ ghost use mathlib.Core.List.{[], _∷_};
 ghost use lib.IntN.{natAbs};
 ghost use Rattle.text.specs.Text.{Put, Room, decimalOf, signedOf};
 
+// A reply, and how many bytes of the lent buffer were written.
+pub struct Written {
+    pub reply: u8,
+    pub length: usize,
+}
+
 // One byte.
 pub fn put_byte(out: &mut [u8], at: usize, b: u8) -> usize
     requires { ⌜ Room at (b ∷ []) ⌝ }

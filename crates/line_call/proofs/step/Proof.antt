@@ -2,7 +2,7 @@
 use mathlib.Core.Path.{sym, _∙_}
 use native.Mathlib.Omega.{arith}
 use Rattle.sheet.proofs.Owned.{owned}
-use Rattle.schematic.proofs.Checking.{lawful-found}
+use Rattle.rules.proofs.Found.{lawful-found}
 use Rattle.line_call.proofs.Refusing.{unread, unlawful, refused-told}
 use Rattle.step.proofs.Stepping.{answers-line}
 use borrow.Author.Needs.{needs}

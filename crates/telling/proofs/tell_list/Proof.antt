@@ -2,7 +2,7 @@
 use mathlib.Core.Path.{refl, ap, _∙_}
 use native.Mathlib.Omega.{arith}
 use Rattle.sheet.proofs.Owned.{owned}
-use Rattle.netlist.proofs.Lengths.{list-room}
+use Rattle.listing.proofs.Lengths.{list-room}
 use Rattle.telling.specs.Fitting.{toldWith}
 use Rattle.telling.proofs.Telling.{line-short, told-refused, told-eight, told-list, list-inside}
 use borrow.Author.Needs.{needs}

@@ -2,7 +2,8 @@
 use native.Mathlib.Omega.{arith}
 use Rattle.telling.proofs.Telling.{answer-fits}
 use Rattle.step.proofs.Fitting.{whole-answer}
-use Rattle.panel_list.proofs.Printed.{length-take-all, line-printed}
+use Rattle.telling.proofs.Behind.{length-take-all}
+use Rattle.panel_list.proofs.Printed.{line-printed}
 use borrow.Author.Needs.{needs}
 use Rattle.panel_list.proofs.answers.print.Statement.{statement}
 use Rattle.panel_list.proofs.answers.print.Tie as tie

@@ -1,6 +1,7 @@
 -- `panel_rows::put_behind` meets its contract: the line that ends a list, or the rows with the tally of the drawing.
 use Rattle.sheet.proofs.Owned.{owned}
-use Rattle.panel_rows.proofs.Behind.{lawful-counted, list-behind, rows-behind}
+use Rattle.joints.proofs.Lawful.{lawful-counted}
+use Rattle.panel_rows.proofs.Behind.{list-behind, rows-behind}
 use borrow.Author.Needs.{needs}
 use Rattle.panel_rows.proofs.rows.put_behind.Statement.{statement}
 use Rattle.panel_rows.proofs.rows.put_behind.Tie as tie
