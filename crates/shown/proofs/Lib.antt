@@ -1,0 +1,2 @@
+mod Showing
+pub mod Longer
