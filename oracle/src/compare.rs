@@ -1,8 +1,15 @@
 //! Seeded scripts through the Rust and through a program, compared line by line.
 
 mod counts;
+mod file_counts;
+mod files;
+mod invariants;
+mod saved;
 
 pub use counts::Counts;
+pub use file_counts::FileCounts;
+pub use files::{compare_files, FileDifference, Opener};
+pub use saved::{compare_saved, hex, SaveAndOpen, SavedCounts};
 
 use crate::drawing::{perform, run, Form};
 use crate::generate::{bytes_of, script, Script};
@@ -112,15 +119,21 @@ pub fn same(expected: &[u8], found: &[u8], form: Form) -> Result<(), String> {
     if expected == found {
         return Ok(());
     }
-    let (expected, found) = (text_lines(expected), text_lines(found));
-    let same = expected.iter().zip(&found).take_while(|(one, other)| one == other).count();
+    let expected = text_lines(expected);
+    let (same, what) = first_difference(&expected, &text_lines(found));
     let last_of_its_line = |line: &&String| match form {
         Form::Rows => *line == ".",
         Form::List | Form::Told => line.starts_with("A ") || line.starts_with("E "),
     };
     let script_line = expected[..same].iter().filter(last_of_its_line).count() + 1;
+    Err(format!("script line {script_line}: {what}"))
+}
+
+/// How many lines are the same, and what stands behind them.
+fn first_difference(expected: &[String], found: &[String]) -> (usize, String) {
+    let same = expected.iter().zip(found).take_while(|(one, other)| one == other).count();
     let at = |lines: &[String]| lines.get(same).cloned().unwrap_or("the end".into());
-    Err(format!("script line {script_line}: expected `{}`, found `{}`", at(&expected), at(&found)))
+    (same, format!("expected `{}`, found `{}`", at(expected), at(found)))
 }
 
 fn text_lines(bytes: &[u8]) -> Vec<String> {

@@ -1,6 +1,7 @@
 //! Random scripts from a seed, on boards where edits meet: few coordinates, so that ends, pads, lines and boxes coincide.
 
 mod board;
+pub mod files;
 mod junk;
 mod writing;
 
@@ -24,7 +25,7 @@ pub fn script(seed: u64) -> Script {
     let mut random = Random(seed.wrapping_mul(0x2545_f491_4f6c_dd1d));
     let mut script = Vec::new();
     while script.len() < LINES {
-        if seed.is_multiple_of(FULL_SHARE) {
+        if fills_a_drawing(seed) {
             full_board(&mut script, &mut random);
         } else {
             small_board(&mut script, 250, &mut random);
@@ -32,6 +33,11 @@ pub fn script(seed: u64) -> Script {
     }
     writing::rewrite_numbers(&mut script, seed);
     script
+}
+
+/// Whether this seed's script fills a drawing to its limits.
+fn fills_a_drawing(seed: u64) -> bool {
+    seed.is_multiple_of(FULL_SHARE)
 }
 
 /// A script of about so many lines for a recorded sample: short rounds, so that the rows behind every edit stay few.

@@ -1,11 +1,13 @@
 //! The Rust that this repository ports, run unchanged behind document 01's script, limits and refusals.
 //!
 //! `schematic` and `symbol` are the published files themselves, over stand-ins for the crates they use. `original` puts
-//! document 01's replies before the Rust's edits; `model` is document 01 once more, written from its words alone.
+//! document 01's replies before the Rust's edits; `model` is document 01 once more, written from its words alone, and
+//! `file` the saved drawing of document 02, of which the Rust knows nothing.
 
 pub mod commands;
 pub mod compare;
 pub mod drawing;
+pub mod file;
 pub mod generate;
 pub mod list;
 pub mod minimise;

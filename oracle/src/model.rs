@@ -3,8 +3,8 @@
 
 mod loose;
 mod nets;
-mod symbols;
-mod wires;
+pub(crate) mod symbols;
+pub(crate) mod wires;
 
 use crate::drawing::{Answer, Drawing};
 use crate::refusal::{refusal, MOST_COMPONENTS, MOST_WIRES};
@@ -15,7 +15,7 @@ use symbols::{altered, pads, Bounds, Turn};
 use wires::{meets, merge, on, split_at};
 
 /// (y, x), so that points rise as joints do.
-type Point = (i32, i32);
+pub(crate) type Point = (i32, i32);
 
 #[derive(Clone, Default)]
 pub struct Model {
@@ -61,6 +61,11 @@ impl Drawing for Model {
 }
 
 impl Model {
+    /// The drawing of these wires and components, which are lawful.
+    pub fn of(wires: Vec<Wire>, components: Vec<Component>) -> Self {
+        Model { wires, components }
+    }
+
     fn edit_unlimited(&mut self, edit: &Edit) -> Answer {
         match *edit {
             Edit::Wire { vertical, line, start, end } => self.add_wire(Wire { vertical, line, start, end }),

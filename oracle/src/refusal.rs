@@ -4,10 +4,10 @@ use crate::script::{Edit, Pointer};
 
 pub const MOST_WIRES: usize = 512;
 pub const MOST_COMPONENTS: usize = 128;
-const FARTHEST_POINT: i32 = 6000;
-const FARTHEST_POSITION: i32 = 5800;
+pub const FARTHEST_POINT: i32 = 6000;
+pub const FARTHEST_POSITION: i32 = 5800;
 const LARGEST_SIZE: i32 = 1000;
-const LONGEST_LABEL: usize = 16;
+pub const LONGEST_LABEL: usize = 16;
 
 pub fn refusal(edit: &Edit) -> Option<u32> {
     match edit {

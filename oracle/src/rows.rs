@@ -60,8 +60,14 @@ impl Rows {
         self.joints.iter().map(|joint| joint.count).sum()
     }
 
-    /// The tally and all rows, a line each, then the line that ends a dump.
+    /// The tally and all rows, then the line that ends a dump.
     pub fn print(&self, out: &mut Vec<u8>) {
+        self.print_lines(out);
+        out.extend_from_slice(b".\n");
+    }
+
+    /// The tally and all rows, a line each.
+    pub fn print_lines(&self, out: &mut Vec<u8>) {
         let tally = [self.wires.len(), self.joints.len(), self.components.len(), self.ends() as usize];
         put_line(out, b"T", &tally.map(|n| n as i32));
         for wire in &self.wires {
@@ -76,7 +82,6 @@ impl Rows {
             out.extend_from_slice(&part.label);
             out.push(b'\n');
         }
-        out.extend_from_slice(b".\n");
     }
 }
 

@@ -1,5 +1,7 @@
-//! A recorded run for a program's files `stdin` and `stdout`: a script, and what the Rust prints for it.
+//! A recorded run for a program's files `stdin` and `stdout`: a script, and what the Rust prints for it; or files, and what the
+//! reader of saved drawings gives for them.
 
+mod files;
 mod limits;
 
 use crate::compare::{in_three_orders, same, Counts};
@@ -20,6 +22,42 @@ const DROP_POINT: &[u8] = include_bytes!("../../docs/examples/drop-point.txt");
 const DROP_POINT_CLEARED: &[u8] = b"d 300 600 1000\n";
 /// Document 01's examples, each refusal, lines that are read to the letter, turns and merges. Leaves nothing drawn.
 const CHOSEN: &[u8] = include_bytes!("../samples/chosen.txt");
+
+/// Which program's run is recorded.
+#[derive(Debug, Clone, Copy, PartialEq, Eq)]
+pub enum Sample {
+    /// panel_rows or panel_list.
+    Script(Form),
+    /// panel_files.
+    Files,
+    /// panel_save.
+    Save,
+    /// panel_open.
+    Open,
+}
+
+impl Sample {
+    pub fn named(name: &str) -> Option<Self> {
+        match name {
+            "rows" => Some(Sample::Script(Form::Rows)),
+            "list" => Some(Sample::Script(Form::List)),
+            "files" => Some(Sample::Files),
+            "save" => Some(Sample::Save),
+            "open" => Some(Sample::Open),
+            _ => None,
+        }
+    }
+
+    /// Input and output.
+    pub fn record(self) -> Result<(Vec<u8>, Vec<u8>), String> {
+        match self {
+            Sample::Script(form) => record(form),
+            Sample::Files => Ok(files::record_files()),
+            Sample::Save => Ok(files::record_save()),
+            Sample::Open => Ok(files::record_open()),
+        }
+    }
+}
 
 /// The script and its output. The last line, `n`, goes without its newline and counts all the same.
 pub fn record(form: Form) -> Result<(Vec<u8>, Vec<u8>), String> {
@@ -58,9 +96,9 @@ fn in_every_order(script: &[u8], form: Form) -> Result<Vec<u8>, String> {
 }
 
 /// Writes both files into a folder.
-pub fn write_sample(form: Form, folder: &Path) -> Result<(), String> {
-    let (script, printed) = record(form)?;
-    for (name, content) in [("stdin", script), ("stdout", printed)] {
+pub fn write_sample(sample: Sample, folder: &Path) -> Result<(), String> {
+    let (input, printed) = sample.record()?;
+    for (name, content) in [("stdin", input), ("stdout", printed)] {
         std::fs::write(folder.join(name), content).map_err(|error| format!("{name}: {error}"))?;
     }
     Ok(())
