@@ -1,4 +1,4 @@
--- What a function that reads from an index of some bytes answers: a reply, the index behind what was read, and the value.
+-- Below the calls: what a function that reads from an index of some bytes answers: a reply, the index behind what was read, and the value.
 use Prim.Native.Nat.{ℕ, _≤_}
 use mathlib.Core.Path.{_≡_}
 use mathlib.Core.List.{List}

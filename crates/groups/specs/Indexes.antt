@@ -1,4 +1,4 @@
--- What the functions on an index of some bytes tell, as what is taken from the bytes from that index on.
+-- Below the calls: what the functions on an index of some bytes tell, as what is taken from the bytes from that index on.
 use Prim.Native.Nat.{ℕ, _+_, _*_, _≤_}
 use mathlib.Core.Bool.{cond, _&&_}
 use mathlib.Core.List.{List}

@@ -3,6 +3,7 @@
 // the answer and the tally are printed; the tally stays at the zeros that were lent until an edit is accepted.
 mod calls;
 mod drawings;
+mod files;
 mod print;
 mod shapes;
 mod steps;
@@ -158,4 +159,5 @@ fn main() {
     calls::lines();
     shapes::shapes();
     calls::buffers();
+    files::files();
 }

@@ -1,4 +1,4 @@
--- The program's contract, over all that it read.
+-- Beside the calls: the program's contract, over all that it read.
 use mathlib.Core.Path.{_≡_}
 use mathlib.Core.Bool.{false}
 use mathlib.Core.List.{List}

@@ -5,8 +5,13 @@ use mathlib.Core.List.{List, [], _∷_, _++_}
 use Prim.Native.Nat.{_+_}
 use Rattle.lists.specs.Lists.{keep, gather}
 use Rattle.sheet.specs.declared.Wire.{Wire}
+use Rattle.sheet.specs.declared.Component.{Component}
 use Rattle.saved.specs.File.{wireBytes, directed}
 use Rattle.save.specs.Parts.{wireIf}
+
+-- what the code reads past the end of the components
+abbrev pub blank : Component
+blank = record { kind = 0; orientation = 0; x = 0; y = 0; label = [] }
 
 module _ (v : Bool) (w : Wire) where
   pub wire-yes : Bool·beq (w .vertical) v ≡ true → wireIf v w ≡ wireBytes w

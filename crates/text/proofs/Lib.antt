@@ -2,5 +2,6 @@
 pub mod Puts
 pub mod Decimals
 pub mod Buffers
+pub mod Loops
 mod Signs
 mod Examples

@@ -1,7 +1,7 @@
 -- `panel_board::put_drawing` prints the rows of a drawing that the check has found lawful.
 use native.Mathlib.Omega.{arith}
 use Rattle.sheet.proofs.Owned.{owned}
-use Rattle.schematic.proofs.Checking.{lawful-found}
+use Rattle.rules.proofs.Found.{lawful-found}
 use borrow.Author.Needs.{needs}
 use Rattle.panel_board.proofs.print.put_drawing.Statement.{statement}
 use Rattle.panel_board.proofs.print.put_drawing.Tie as tie

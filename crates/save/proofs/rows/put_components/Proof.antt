@@ -8,7 +8,8 @@ use Rattle.lists.specs.Lists.{gather}
 use Rattle.text.proofs.Puts.{Todo}
 use Rattle.sheet.specs.Drawings.{componentRows}
 use Rattle.saved.specs.File.{partBytes}
-use Rattle.save.proofs.Loops.{left, left-room, put-next, put-end, todo-from, blank}
+use Rattle.text.proofs.Loops.{left, left-room, put-next, put-end, todo-from}
+use Rattle.save.proofs.Parts.{blank}
 use Rattle.save.proofs.rows.put_components.Statement.{statement}
 use Rattle.save.proofs.rows.put_components.Tie as tie
 

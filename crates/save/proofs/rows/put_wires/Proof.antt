@@ -10,7 +10,7 @@ use Rattle.sheet.specs.Drawings.{wireRows, zeroWire}
 use Rattle.saved.specs.File.{wireBytes, directed}
 use Rattle.save.specs.Parts.{wireIf}
 use Rattle.save.proofs.Parts.{wires-if}
-use Rattle.save.proofs.Loops.{left, left-room, put-next, put-end, todo-from}
+use Rattle.text.proofs.Loops.{left, left-room, put-next, put-end, todo-from}
 use Rattle.save.proofs.rows.put_wires.Statement.{statement}
 use Rattle.save.proofs.rows.put_wires.Tie as tie
 

@@ -7,13 +7,8 @@ use lib.ListN.{length, getD, take, drop, length-append}
 use lib.Seq.{sets}
 use Rattle.lists.specs.Lists.{gather}
 use Rattle.lists.proofs.Walks.{rows-from, rows-past}
-use Rattle.sheet.specs.declared.Component.{Component}
 use Rattle.text.specs.Text.{Put}
 use Rattle.text.proofs.Puts.{Todo, todo-step, todo-done}
-
--- what is read past the end of the rows
-abbrev pub blank : Component
-blank = record { kind = 0; orientation = 0; x = 0; y = 0; label = [] }
 
 -- the bytes of the rows from i on, of n
 abbrev pub left : {A : Type 0} → (A → List ℕ) → List A → ℕ → ℕ → List ℕ
