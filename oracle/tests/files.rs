@@ -200,11 +200,13 @@ fn lines_are_told_by_their_number() {
 
 const SAMPLES: [(&str, &str); 3] = [("files", "panel_files"), ("save", "panel_save"), ("open", "panel_open")];
 
+fn record(program: &str, name: &str) -> Vec<u8> {
+    let path = PathBuf::from(env!("CARGO_MANIFEST_DIR")).join("../crates").join(program).join(name);
+    std::fs::read(&path).unwrap_or_else(|error| panic!("{}: {error}", path.display()))
+}
+
 fn recorded(program: &str) -> [Vec<u8>; 2] {
-    ["stdin", "stdout"].map(|name| {
-        let path = PathBuf::from(env!("CARGO_MANIFEST_DIR")).join("../crates").join(program).join(name);
-        std::fs::read(&path).unwrap_or_else(|error| panic!("{}: {error}", path.display()))
-    })
+    ["stdin", "stdout"].map(|name| record(program, name))
 }
 
 #[test]
@@ -237,4 +239,19 @@ fn a_cut_script_is_saved_as_far_as_it_goes() {
         let saved = saved(&whole[..length]);
         assert_eq!(read(&saved.file), Ok(saved.rows));
     }
+}
+
+/// What panel_board's record tells at its end of the file of one wire: the file itself, and the replies to it whole and damaged.
+#[test]
+fn the_board_saves_and_opens_as_the_oracle() {
+    let board = record("panel_board", "stdout");
+    let file = write(&drawn("h 0 0 9\n"));
+    assert!(board.windows(file.len()).any(|bytes| bytes == file));
+    let both = [&file[..], &[0, 0, 0]].concat();
+    let longer_form = [&file[..2], &[174, 0], &file[3..]].concat();
+    let flat = [1, 240, 46, 240, 46, 240, 46, 0, 0, 0];
+    let opened = [&file[..], &both, &file[..file.len() - 1], &longer_form, &flat].map(reply);
+    let text = String::from_utf8_lossy(&board);
+    let told = text.lines().filter_map(|line| line.strip_prefix("open ")?.split(' ').next()?.parse().ok());
+    assert_eq!(told.collect::<Vec<u32>>(), opened);
 }
