@@ -20,6 +20,8 @@ const SEED: u64 = 9;
 /// How often all is timed, in turns: a slow spell of the machine is longer than one time taken. The least counts.
 const TURNS: usize = 3;
 const LOOSE: &str = "loose, drawing known to be lawful";
+const SAVE: &str = "save, public call";
+const OPEN: &str = "open, public call";
 const NETS: &str = "the net numbers of all pads";
 const EDITS: [(EditKind, &str); 5] = [
     (EditKind::Wire, "wire"),
@@ -51,6 +53,8 @@ fn main() {
     table.print();
     table.print_times("check, plain", "check");
     table.print_times(LOOSE, NETS);
+    table.print_times(SAVE, "check");
+    table.print_times(OPEN, "check");
     time_shapes();
 }
 
@@ -152,4 +156,15 @@ fn time_looks(table: &mut Table, size: usize, board: &Board, ours: &Ours) {
     table.row("list, public call", size, &time(Call::List), Some(&list));
     table.row(LOOSE, size, &time(Call::LooseOn), None);
     table.row("loose, public call", size, &time(Call::Loose), None);
+    time_files(table, size, ours);
+}
+
+/// A file is opened straight after it was saved; the time of saving is taken off.
+fn time_files(table: &mut Table, size: usize, ours: &Ours) {
+    assert_eq!(ours.answer(Call::SaveAndOpen, Numbered::NONE), 0, "what was saved is opened");
+    let [saved, public, both] =
+        [Call::SaveOn, Call::Save, Call::SaveAndOpen].map(|call| ours.time(call, Numbered::NONE));
+    table.row("save, drawing known to be lawful", size, &[saved], None);
+    table.row(SAVE, size, &[public], None);
+    table.row(OPEN, size, &[both - saved], None);
 }

@@ -22,7 +22,7 @@ extern "C" {
     ) -> u32;
 }
 
-/// The number of a timed call in `crates/bench_calls/specs/Timed.antt` and `Tables.antt`.
+/// The number of a timed call in `crates/bench_calls/specs/Timed.antt`, `Tables.antt` and `Files.antt`.
 #[derive(Debug, Clone, Copy, PartialEq, Eq)]
 #[repr(u8)]
 pub enum Call {
@@ -43,11 +43,23 @@ pub enum Call {
     CountJoints = 14,
     Pads = 15,
     NetNumbers = 16,
+    Save = 17,
+    SaveOn = 18,
+    SaveAndOpen = 19,
 }
 
 impl Call {
-    pub const LOOKS: [Self; 6] =
-        [Self::CheckPlainly, Self::Check, Self::ListOn, Self::List, Self::LooseOn, Self::Loose];
+    pub const LOOKS: [Self; 9] = [
+        Self::CheckPlainly,
+        Self::Check,
+        Self::ListOn,
+        Self::List,
+        Self::LooseOn,
+        Self::Loose,
+        Self::Save,
+        Self::SaveOn,
+        Self::SaveAndOpen,
+    ];
     pub const TABLES: [Self; 9] = [
         Self::Split,
         Self::KeepWires,

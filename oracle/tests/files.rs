@@ -228,6 +228,7 @@ fn the_samples_hold_what_they_should() {
     assert!(files.len() + answers.len() < 400_000);
     assert_eq!(answers.split(|&byte| byte == b'\n').filter(|line| line.starts_with(b"A ")).count(), each.len());
     assert_eq!(file, same_file, "the lines put between those of the drop point alter nothing");
+    assert_eq!(file, include_bytes!("../../docs/examples/drop-point.saved"));
     assert_eq!(saved(&script).told.split(|&byte| byte == b'\n').count() - 1, 12);
     assert!(lines(&script).any(|line| line.len() > 80));
 }
