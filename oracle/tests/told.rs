@@ -5,8 +5,13 @@ use oracle::model::Model;
 use oracle::original::Original;
 use rstar::Order;
 
-const BOARD: &str = include_str!("../../crates/panel_board/stdout");
+const BOARD: &[u8] = include_bytes!("../../crates/panel_board/stdout");
 const TITLE: &str = "# rows told, from ";
+
+/// The record as text; the files in it are bytes.
+fn board() -> String {
+    String::from_utf8_lossy(BOARD).into_owned()
+}
 
 /// The script of the drawing that a part of the record starts from.
 fn start(title: &str) -> String {
@@ -23,7 +28,8 @@ fn start(title: &str) -> String {
 
 /// The script lines of a part, and the lines printed for them.
 fn part(title: &str) -> (String, String) {
-    let (_, behind) = BOARD.split_once(&format!("{TITLE}{title}\n")).unwrap();
+    let board = board();
+    let (_, behind) = board.split_once(&format!("{TITLE}{title}\n")).unwrap();
     let lines: Vec<_> = behind.lines().take_while(|line| !line.starts_with('#')).collect();
     let asked = lines.iter().filter_map(|line| line.strip_prefix("> ")).map(|line| format!("{line}\n"));
     let told = lines.iter().filter(|line| !line.starts_with("> ")).map(|line| format!("{line}\n"));
@@ -32,7 +38,8 @@ fn part(title: &str) -> (String, String) {
 
 #[test]
 fn the_board_tells_what_the_rust_and_the_model_tell() {
-    let titles: Vec<_> = BOARD.lines().filter_map(|line| line.strip_prefix(TITLE)).collect();
+    let board = board();
+    let titles: Vec<_> = board.lines().filter_map(|line| line.strip_prefix(TITLE)).collect();
     assert_eq!(titles, ["nothing", "128 components", "512 wires", "both"]);
     for title in titles {
         let (asked, told) = part(title);
@@ -47,7 +54,8 @@ fn the_board_tells_what_the_rust_and_the_model_tell() {
 
 #[test]
 fn it_tells_each_of_them() {
-    let lines: Vec<_> = BOARD.lines().collect();
+    let board = board();
+    let lines: Vec<_> = board.lines().collect();
     let wanted =
         [("p", "A 6 row 2"), ("p", "A 7 row 0"), ("h", "A 11 row 0"), ("p", "A 11 row 0"), ("r", "A 11 row 0")];
     for (letter, told) in wanted {
