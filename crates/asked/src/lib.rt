@@ -9,21 +9,21 @@ use sheet::{Component, Wire};
 use symbol::Point;
 
 // A wire, or the refusal and zeros.
-#[derive(Drop)]
+#[derive(Clone, Copy)]
 pub struct AskedWire {
     pub reply: u8,
     pub wire: Wire,
 }
 
 // A component, or the refusal and zeros.
-#[derive(Drop)]
+#[derive(Clone, Copy)]
 pub struct AskedPart {
     pub reply: u8,
     pub part: Component,
 }
 
 // A pointer and its size, or the refusal and zeros.
-#[derive(Drop)]
+#[derive(Clone, Copy)]
 pub struct AskedPointer {
     pub reply: u8,
     pub point: Point,

@@ -11,7 +11,7 @@ use label::Label;
 use orientation::numbered;
 
 // The answer to a call for a shape: the shape, no shape, or a refusal.
-#[derive(Drop)]
+#[derive(Clone, Copy)]
 pub enum Shape {
     Drawn(Draw),
     NoShape,

@@ -1,10 +1,12 @@
 // A number looked up among many: those of one key are chained, so that only a few are looked at.
+#![tactic(auto)]
+
 ghost use Rattle.std.specs.Prelude.{◌≡◌, ◌≤◌, ◌<◌, ◌%◌, eqb, take};
 ghost use Rattle.lists.specs.Lists.{any};
 ghost use Rattle.chains.specs.Chains.{Traced, FoundAt};
 
 // The last place of each key, and for each place the one before it with its key; both plus one, and 0 for none.
-#[derive(Drop)]
+#[derive(Clone, Copy)]
 pub struct Index {
     pub last: [u16; 4096],
     pub before: [u16; 1408],

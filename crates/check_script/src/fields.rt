@@ -7,21 +7,21 @@ use script::numbers;
 use script::numbers::Numeral;
 
 // A number of 16 bits, and the index behind it.
-#[derive(Drop)]
+#[derive(Clone, Copy)]
 pub enum Natural {
     Read(u16, usize),
     Missing,
 }
 
 // A number of 8 bits, and the index behind it.
-#[derive(Drop)]
+#[derive(Clone, Copy)]
 pub enum Byte {
     Is(u8, usize),
     IsNot,
 }
 
 // Whether a wire is vertical, and the index behind the letter that says it.
-#[derive(Drop)]
+#[derive(Clone, Copy)]
 pub enum Direction {
     Vertical(bool, usize),
     Neither,

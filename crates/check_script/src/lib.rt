@@ -12,7 +12,7 @@ use script::numbers::Numeral;
 use sheet::{Joint, Wire};
 
 // What a line says. `behind`: the row stands behind the counts. A label is the part of the line from the index `label` to its end.
-#[derive(Drop)]
+#[derive(Clone, Copy)]
 pub enum Said {
     Wire {
         behind: bool,

@@ -5,14 +5,14 @@ ghost use Rattle.component.specs.Answers.{component_pads_of, component_box_of, h
 use symbol::Point;
 
 // A point by its coordinates.
-#[derive(Drop)]
+#[derive(Clone, Copy)]
 pub struct Position {
     pub x: i32,
     pub y: i32,
 }
 
 // The pads of a component by their coordinates: three points with their count, zeros behind it; a refusal has zeros for every number but the reply.
-#[derive(Drop)]
+#[derive(Clone, Copy)]
 pub struct PadsAnswer {
     pub reply: u8,
     pub points: [Position; 3],
@@ -20,7 +20,7 @@ pub struct PadsAnswer {
 }
 
 // The box of a component by its coordinates; a refusal has zeros for every number but the reply.
-#[derive(Drop)]
+#[derive(Clone, Copy)]
 pub struct BoxAnswer {
     pub reply: u8,
     pub low: Position,

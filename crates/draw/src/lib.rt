@@ -12,21 +12,21 @@ mod symbols;
 pub use symbols::shape;
 
 // A point of a shape.
-#[derive(Drop)]
+#[derive(Clone, Copy)]
 pub struct Vector2 {
     pub x: f32,
     pub y: f32,
 }
 
 // A line (two points, width) or a circle (centre, radius, width).
-#[derive(Drop)]
+#[derive(Clone, Copy)]
 pub enum Draw {
     Line(Vector2, Vector2, f32),
     Circle(Vector2, f32, f32),
 }
 
 // The shape asked for, or no shape.
-#[derive(Drop)]
+#[derive(Clone, Copy)]
 pub enum Choice {
     Of(Draw),
     Nothing,

@@ -1,9 +1,11 @@
 // The edge between the coordinates of document 01 and the numbers that rows hold: 6,000 more.
+#![tactic(auto)]
+
 ghost use Rattle.std.specs.Prelude.{◌≡◌};
 ghost use Rattle.edge.specs.Coordinates.{coord_of, biased_within, is_position, size_of, sized};
 
 // A coordinate as rows hold it, or none and 0.
-#[derive(Drop)]
+#[derive(Clone, Copy)]
 pub struct Found {
     pub within: bool,
     pub at: u16,
@@ -15,7 +17,7 @@ const NOWHERE: Found = Found {
 };
 
 // A pointer size, or none.
-#[derive(Drop)]
+#[derive(Clone, Copy)]
 pub enum PointerSize {
     Is(u16),
     Wrong,

@@ -16,7 +16,7 @@ use wires::{Grown, no_wires};
 
 // What an edit makes: the new tables, and how many contacts were hit and lost. Or nothing, and the reply to that: 7 where there is no room
 // for the components, 11 where there is none for the wires.
-#[derive(Drop)]
+#[derive(Clone, Copy)]
 pub struct Made {
     pub reply: u8,
     pub wires: Wires,

@@ -7,14 +7,14 @@ ghost use Rattle.file_rows.specs.Answers.{ReadAs};
 
 use crate::value::read_value;
 
-#[derive(Drop)]
+#[derive(Clone, Copy)]
 pub struct ByteRead {
     pub reply: u8,
     pub next: usize,
     pub byte: u8,
 }
 
-#[derive(Drop)]
+#[derive(Clone, Copy)]
 pub struct LabelRead {
     pub reply: u8,
     pub next: usize,

@@ -10,14 +10,14 @@ use letters::read_label;
 use sheet::{Component, Wire};
 pub use value::{Got, read_value};
 
-#[derive(Drop)]
+#[derive(Clone, Copy)]
 pub struct WireRead {
     pub reply: u8,
     pub next: usize,
     pub wire: Wire,
 }
 
-#[derive(Drop)]
+#[derive(Clone, Copy)]
 pub struct PartRead {
     pub reply: u8,
     pub next: usize,

@@ -13,7 +13,7 @@ use tables::{read_parts, read_wires};
 use wires::no_wires;
 
 // A reply, the index behind what was read, and the tables.
-#[derive(Drop)]
+#[derive(Clone, Copy)]
 pub struct TablesRead {
     pub reply: u8,
     pub next: usize,

@@ -12,14 +12,14 @@ use file_rows::{read_part, read_wire};
 use parts::no_parts;
 use sheet::{Components, Wires};
 
-#[derive(Drop)]
+#[derive(Clone, Copy)]
 pub struct WiresRead {
     pub reply: u8,
     pub next: usize,
     pub wires: Wires,
 }
 
-#[derive(Drop)]
+#[derive(Clone, Copy)]
 pub struct PartsRead {
     pub reply: u8,
     pub next: usize,

@@ -7,7 +7,7 @@ ghost use Rattle.groups.specs.Indexes.{number_at, Inside, above_in, Small, withi
 use text::put_byte;
 
 // A number and the index behind it; or the reply of a refusal.
-#[derive(Drop)]
+#[derive(Clone, Copy)]
 pub enum Number {
     Read(u32, usize),
     Refused(u8),

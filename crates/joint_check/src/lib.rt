@@ -17,7 +17,7 @@ use sheet::{Joints, Wires};
 use wires::Points;
 
 // How often each joint row was met, if every key met one.
-#[derive(Drop)]
+#[derive(Clone, Copy)]
 pub struct Meetings {
     pub all: bool,
     pub counts: [u16; 1408],

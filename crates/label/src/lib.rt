@@ -1,16 +1,18 @@
 // Labels: as a caller gives them, as rows hold them, and as they come back.
+#![tactic(auto)]
+
 ghost use Rattle.std.specs.Prelude.{◌≡◌, drop};
 ghost use Rattle.label.specs.Labels.{graphic, label_of, held_label, label_part, label_ok, all_zero};
 
 // A label as a caller gives it: its length, which may be too great, and its first 16 bytes. Bytes behind the length say nothing.
-#[derive(Drop)]
+#[derive(Clone, Copy)]
 pub struct Label {
     pub bytes: [u8; 16],
     pub length: usize,
 }
 
 // A label as rows hold it, with zeros behind; or the reply 5 and zeros.
-#[derive(Drop)]
+#[derive(Clone, Copy)]
 pub struct Held {
     pub reply: u8,
     pub bytes: [u8; 16],

@@ -5,7 +5,7 @@ ghost use Rattle.lawful.specs.Looks.{column_of, next_row, Chained};
 use sheet::Joints;
 
 // For each column its first joint row, and for each joint row the next one in its column; 1,408 where there is none.
-#[derive(Drop)]
+#[derive(Clone, Copy)]
 pub struct Columns {
     pub first: [u16; 12001],
     pub next: [u16; 1408],

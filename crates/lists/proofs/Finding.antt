@@ -60,6 +60,7 @@ module _ {A : Type 0} where
   module _ {P : A → Type 0} {f : A → Bool} (test : (x : A) → Reads (P x) (f x)) where
     pub span_found : {x : A} {xs : List A} (d : A) → x ∈ xs → P x → (span (λ y. not (f y)) xs < length xs) × P (get_or xs (span (λ y. not (f y)) xs) d)
     unfolding span
+    span_found {xs = []} d m h = elim m [ ]
     span_found {xs = y ∷ ys} d (∈-head e) h = choose (not_reads (test y)) (λ n. (n < suc (length ys)) × P (get_or (y ∷ ys) n d))
         (λ no. absurd (no (subst P e h)))
         (λ yes. (omega arith, stable (test y) yes))

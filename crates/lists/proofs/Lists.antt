@@ -126,7 +126,7 @@ module _ {A : Type 0} where
       (λ (k : z ∈ insert_all f xs ys). ⊎_elim (λ (t : z ∈ xs). inl (∈-tail t)) inr (insert_all_in f xs ys k))
       (insert_in f x (insert_all f xs ys) m)
 
-  pub insert_all_new : (f : A → A → Bool) {xs : List A} (ys : List A) {z : A} → z ∈ xs → z ∈ insert_all f xs ys
+  pub insert_all_new : (f : A → A → Bool) {z : A} {xs : List A} (ys : List A) → z ∈ xs → z ∈ insert_all f xs ys
   unfolding insert_all
   insert_all_new f ys (∈-head {x} {xs} e) = ∈-cast e (insert_new f x (insert_all f xs ys))
   insert_all_new f ys (∈-tail {x} m) = insert_old f x (insert_all_new f ys m)

@@ -34,6 +34,7 @@ module _ {A : Type 0} where
 
     -- two rows are one, or one stands before the other
     pub rows_two : {xs : List A} → Rows R xs → {x y : A} → x ∈ xs → y ∈ xs → (x ≡ y) ⊎ (R x y ⊎ R y x)
+    rows_two none m n = elim m [ ]
     rows_two (more h s) {x} {y} (∈-head e) (∈-head e') = inl (e ∙ sym e')
     rows_two (more h s) {x} {y} (∈-head e) (∈-tail n) = inr (inl (subst (λ z. R z y) (sym e) (h y n)))
     rows_two (more h s) {x} {y} (∈-tail m) (∈-head e) = inr (inr (subst (λ z. R z x) (sym e) (h x m)))

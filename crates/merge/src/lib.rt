@@ -12,7 +12,7 @@ use sheet::{Wire, Wires};
 use wires::{Points, no_wires};
 
 // All wire ends and pads of a drawing, each as a number: twice 512 and three times 128 at most.
-#[derive(Drop)]
+#[derive(Clone, Copy)]
 pub struct Numbers {
     pub rows: [u64; 1408],
     pub count: usize,

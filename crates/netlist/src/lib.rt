@@ -15,7 +15,7 @@ use sheet::Drawing;
 use text::Written;
 
 // A reply, and the number of loose pads.
-#[derive(Drop)]
+#[derive(Clone, Copy)]
 pub struct LooseCount {
     pub reply: u8,
     pub count: u32,

@@ -1,4 +1,6 @@
 // Which pads are on one net, and the numbers of the nets. Wires and pads come by the numbers of their joints: row + 1.
+#![tactic(auto)]
+
 ghost use Rattle.std.specs.Prelude.{◌≡◌, List, map, ℕ, ◌<◌, get_or};
 ghost use Rattle.lists.specs.Tables.{pad};
 ghost use Rattle.nets.specs.Numbers;
@@ -6,20 +8,20 @@ ghost use Rattle.nets.specs.Numbers.{first_net, net_of, numbering, numbers_of};
 ghost use Rattle.nets.specs.Tables.{JointNumber, LinksFit, PadsFit, net_in, pad_rows, tabulate, Falling, root_of, join_of, Rooted, Ranked};
 
 // A wire by the joints at its two ends.
-#[derive(Drop)]
+#[derive(Clone, Copy)]
 pub struct Link {
     pub from: u16,
     pub to: u16,
 }
 
-#[derive(Drop)]
+#[derive(Clone, Copy)]
 pub struct Links {
     pub rows: [Link; 512],
     pub count: usize,
 }
 
 // Pads by their joints.
-#[derive(Drop)]
+#[derive(Clone, Copy)]
 pub struct Pads {
     pub rows: [u16; 384],
     pub count: usize,

@@ -1,20 +1,22 @@
 // The eight orientations by their numbers, and the three turns.
+#![tactic(auto)]
+
 ghost use Rattle.std.specs.Prelude.{◌≡◌};
 ghost use Rattle.orientation.specs.Orientations.{numbered_of, turned_by, rights, lefts, mirrors, can_turn};
 
 // An orientation (a, b, c, d): (x, y) goes to (ax + by, cx + dy).
-#[derive(Drop)]
+#[derive(Clone, Copy)]
 pub struct RotMirror(pub i8, pub i8, pub i8, pub i8);
 
 // The reply to a call for the four numbers: 0 and the orientation, or 4 and zeros.
-#[derive(Drop)]
+#[derive(Clone, Copy)]
 pub struct FourNumbers {
     pub reply: u8,
     pub turn: RotMirror,
 }
 
 // The reply to a turn: 0 and the number of the turned orientation, or 4 and 0.
-#[derive(Drop)]
+#[derive(Clone, Copy)]
 pub struct Turned {
     pub reply: u8,
     pub turn: u8,

@@ -16,7 +16,7 @@ use streams::{Got, read_chunk, write_block};
 
 // How far the input is read: the drawing that has begun, if a line of it was read; the number of the last line, and whether it was
 // unreadable; how many bytes of answers wait; and whether a read or a write failed.
-#[derive(Drop)]
+#[derive(Clone, Copy)]
 pub struct State {
     pub sketch: Sketch,
     pub begun: bool,
@@ -27,21 +27,21 @@ pub struct State {
 }
 
 // The state, and how many bytes of a line that goes on are held.
-#[derive(Drop)]
+#[derive(Clone, Copy)]
 pub struct Carried {
     pub run: State,
     pub count: usize,
 }
 
 // How many bytes of answers wait to be written, and whether a read or a write failed.
-#[derive(Drop)]
+#[derive(Clone, Copy)]
 pub struct Waiting {
     pub used: usize,
     pub failed: bool,
 }
 
 // Where the next answer goes, and whether a write failed.
-#[derive(Drop)]
+#[derive(Clone, Copy)]
 pub struct Room {
     pub at: usize,
     pub failed: bool,

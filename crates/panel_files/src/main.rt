@@ -8,7 +8,7 @@ use shown::show;
 use streams::{Output, fill, write_block};
 
 // A file, as far as the input has it: its length, whether the input ended before its end, and whether a read failed.
-#[derive(Drop)]
+#[derive(Clone, Copy)]
 pub struct Frame {
     pub length: usize,
     pub ended: bool,

@@ -8,14 +8,14 @@ use sheet::Drawing;
 use step::{NO_TALLY, step_on};
 
 // The drawing after a line, and how many bytes were printed.
-#[derive(Drop)]
+#[derive(Clone, Copy)]
 pub struct Answered {
     pub drawing: Drawing,
     pub used: usize,
 }
 
 // The drawing, how much of the chunk was taken, how many bytes of a line that goes on are held, and how many were printed.
-#[derive(Drop)]
+#[derive(Clone, Copy)]
 pub struct Taken {
     pub drawing: Drawing,
     pub at: usize,

@@ -15,7 +15,7 @@ use streams::{Got, Output, read_chunk, write_block};
 
 // How far the script is: the drawing, how many bytes of a line that goes on are held, the sum of all that was handed over, and whether a
 // read or a write failed.
-#[derive(Drop)]
+#[derive(Clone, Copy)]
 pub struct Run {
     pub drawing: Drawing,
     pub count: usize,

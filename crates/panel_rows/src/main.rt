@@ -14,14 +14,14 @@ use sheet::Drawing;
 use streams::{Got, read_chunk, write_block};
 
 // The drawing after a line, and whether what it printed was taken.
-#[derive(Drop)]
+#[derive(Clone, Copy)]
 pub struct Answered {
     pub drawing: Drawing,
     pub taken: bool,
 }
 
 // How far the script is: the drawing, how many bytes of a line that goes on are held, and whether a write failed.
-#[derive(Drop)]
+#[derive(Clone, Copy)]
 pub struct Run {
     pub drawing: Drawing,
     pub count: usize,

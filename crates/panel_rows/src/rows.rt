@@ -13,7 +13,7 @@ use telling::asks_list;
 use text::put_byte;
 
 // The drawing after a line, and how many bytes of the lent buffer the line printed.
-#[derive(Drop)]
+#[derive(Clone, Copy)]
 pub struct Printed {
     pub drawing: Drawing,
     pub length: usize,

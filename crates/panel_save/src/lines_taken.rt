@@ -12,7 +12,7 @@ use streams::tell_block;
 use text::{put_byte, put_bytes, put_decimal};
 
 // How far the script is: the drawing, the number of the last line, and the sum of what was told on standard error.
-#[derive(Drop)]
+#[derive(Clone, Copy)]
 pub struct State {
     pub drawing: Drawing,
     pub line: u32,

@@ -16,7 +16,7 @@ use sheet::Drawing;
 use streams::{Got, read_chunk, write_block};
 
 // The sums of all that was handed to standard output and to standard error, and whether a read or a write failed.
-#[derive(Drop)]
+#[derive(Clone, Copy)]
 pub struct Done {
     pub sum: u32,
     pub told: u32,
@@ -24,7 +24,7 @@ pub struct Done {
 }
 
 // How far the script is, how many bytes of a line that goes on are held, and whether a read failed.
-#[derive(Drop)]
+#[derive(Clone, Copy)]
 pub struct Run {
     pub state: State,
     pub count: usize,

@@ -16,7 +16,7 @@ use sheet::{Drawing, Tally};
 
 // The reply to an edit: its number, the tally and the drawing after it, how many contacts were hit and lost, and for reply 6 the row of the
 // first component that the new one touches.
-#[derive(Drop)]
+#[derive(Clone, Copy)]
 pub struct Edited {
     pub reply: u8,
     pub tally: Tally,

@@ -16,7 +16,7 @@ use sheet::{Components, Drawing, Tally, Wires};
 use symbol::Point;
 
 // What becomes of that which the square meets.
-#[derive(Drop)]
+#[derive(Clone, Copy)]
 pub enum Act {
     Delete,
     TurnRight,

@@ -22,7 +22,7 @@ use row_order::{components_rise, joints_rise, wires_apart, wires_rise};
 use sheet::{Components, Drawing, Joints, Wires};
 
 // The first broken rule, or 0; for rule 5 the two rows whose boxes share a point.
-#[derive(Drop)]
+#[derive(Clone, Copy)]
 pub struct Checked {
     pub rule: u8,
     pub first: u16,
@@ -30,7 +30,7 @@ pub struct Checked {
 }
 
 // Two rows whose boxes share a point, if there are such.
-#[derive(Drop)]
+#[derive(Clone, Copy)]
 pub struct Touching {
     pub found: bool,
     pub first: u16,

@@ -2,14 +2,14 @@
 use sheet::Drawing;
 
 // A reply, and the drawing; the empty one with a refusal.
-#[derive(Drop)]
+#[derive(Clone, Copy)]
 pub struct Opened {
     pub reply: u8,
     pub drawing: Drawing,
 }
 
 // A reply, the index behind the drawing that was read, and the drawing; with a refusal the index where it was to begin, and the empty drawing.
-#[derive(Drop)]
+#[derive(Clone, Copy)]
 pub struct Front {
     pub reply: u8,
     pub next: usize,

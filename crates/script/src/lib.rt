@@ -1,5 +1,7 @@
 // Reads one line of a panel script: which command it is, and its numbers. What a line says is the definition
 // of specs/Grammar.antt; `command_of` is that definition as a function.
+#![tactic(auto)]
+
 pub mod numbers;
 
 ghost use Rattle.std.specs.Prelude.{◌≡◌, length, drop};
@@ -10,7 +12,7 @@ use numbers::{Numeral, Three};
 
 // What a line says. A label is the part of the line from the index `label` to its end; it is empty where
 // the line has none.
-#[derive(Drop)]
+#[derive(Clone, Copy)]
 pub enum Command {
     Horizontal {
         y: i32,

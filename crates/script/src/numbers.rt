@@ -4,21 +4,21 @@ ghost use Rattle.script.specs.Reading.{found, digits_of, with_sign, signed_numer
 ghost use Rattle.script.specs.Indexes.{begins, leading_digit, number_found, three_found};
 
 // The value of digits, and the index behind them.
-#[derive(Drop)]
+#[derive(Clone, Copy)]
 pub struct DigitsRead {
     pub value: u32,
     pub next: usize,
 }
 
 // A number, and the index behind it.
-#[derive(Drop)]
+#[derive(Clone, Copy)]
 pub enum Numeral {
     Read(i32, usize),
     Missing,
 }
 
 // Three numbers, and the index behind them.
-#[derive(Drop)]
+#[derive(Clone, Copy)]
 pub enum Three {
     Are(i32, i32, i32, usize),
     AreNot,

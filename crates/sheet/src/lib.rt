@@ -2,7 +2,7 @@
 // Coordinates are held plus 6,000, so that none is negative.
 
 // line: y of a horizontal wire, x of a vertical one; start and end along it.
-#[derive(Drop)]
+#[derive(Clone, Copy)]
 pub struct Wire {
     pub vertical: bool,
     pub line: u16,
@@ -11,7 +11,7 @@ pub struct Wire {
 }
 
 // kind: 0 Power, 1 Contact, 2 Coil; orientation: the number of one of the eight, 0 to 7; label: its bytes with zeros behind.
-#[derive(Drop)]
+#[derive(Clone, Copy)]
 pub struct Component {
     pub kind: u8,
     pub orientation: u8,
@@ -21,32 +21,32 @@ pub struct Component {
 }
 
 // A point with wire ends or pads, and the number of both.
-#[derive(Drop)]
+#[derive(Clone, Copy)]
 pub struct Joint {
     pub x: u16,
     pub y: u16,
     pub count: u16,
 }
 
-#[derive(Drop)]
+#[derive(Clone, Copy)]
 pub struct Wires {
     pub rows: [Wire; 512],
     pub count: usize,
 }
 
-#[derive(Drop)]
+#[derive(Clone, Copy)]
 pub struct Components {
     pub rows: [Component; 128],
     pub count: usize,
 }
 
-#[derive(Drop)]
+#[derive(Clone, Copy)]
 pub struct Joints {
     pub rows: [Joint; 1408],
     pub count: usize,
 }
 
-#[derive(Drop)]
+#[derive(Clone, Copy)]
 pub struct Drawing {
     pub wires: Wires,
     pub components: Components,
@@ -54,7 +54,7 @@ pub struct Drawing {
 }
 
 // The numbers of wires, joints and components, and the sum of all joint counts.
-#[derive(Drop)]
+#[derive(Clone, Copy)]
 pub struct Tally {
     pub wires: u32,
     pub joints: u32,

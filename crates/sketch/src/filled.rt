@@ -3,7 +3,7 @@ ghost use Rattle.std.specs.Prelude.{◌≡◌, ◌<◌};
 ghost use Rattle.sketch.specs.Sketches.{has_room, row_for, more_of, count_after};
 
 // With how many rows that count, and with how many in all; and whether the table's count was told outright.
-#[derive(Drop)]
+#[derive(Clone, Copy)]
 pub struct Filled {
     pub counted: usize,
     pub used: usize,

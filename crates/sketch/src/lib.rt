@@ -13,7 +13,7 @@ use sheet::{Component, Components, Drawing, Joint, Joints, Wire, Wires};
 use tables::{put_component, put_joint, put_wire};
 
 // The drawing so far, and how far its tables are filled.
-#[derive(Drop)]
+#[derive(Clone, Copy)]
 pub struct Sketch {
     pub drawing: Drawing,
     pub wires: Filled,
@@ -22,7 +22,7 @@ pub struct Sketch {
 }
 
 // A sketch after a line; or as it was, where no row can hold the line.
-#[derive(Drop)]
+#[derive(Clone, Copy)]
 pub struct Added {
     pub held: bool,
     pub sketch: Sketch,

@@ -8,7 +8,7 @@ use libc::STDIN_FILENO;
 pub use output::{Output, tell_block, write_block};
 
 // What a read brings: so many bytes in front of the lent buffer, or the end of the input.
-#[derive(Drop)]
+#[derive(Clone, Copy)]
 pub enum Got {
     Bytes(usize),
     End,
@@ -16,7 +16,7 @@ pub enum Got {
 }
 
 // How many bytes were put in front of a lent buffer, and whether a read failed.
-#[derive(Drop)]
+#[derive(Clone, Copy)]
 pub struct Filled {
     pub count: usize,
     pub failed: bool,

@@ -6,7 +6,7 @@ ghost use Rattle.streams.specs.Sums.{next_sum, sum_of};
 use libc::{STDERR_FILENO, STDOUT_FILENO};
 
 // The sum of all that was handed over, and whether a write failed.
-#[derive(Drop)]
+#[derive(Clone, Copy)]
 pub struct Output {
     pub sum: u32,
     pub failed: bool,

@@ -7,35 +7,35 @@ ghost use Rattle.symbol.specs.Answers.{pads_reply_of, aabb_of};
 ghost use Rattle.symbol.specs.Steps.{offset_of, along_of, map_first, reaching_of, Near, Mapping, Reaching};
 
 // A point as rows hold it: each coordinate and 6,000 more. A row of zeros is no point.
-#[derive(Drop)]
+#[derive(Clone, Copy)]
 pub struct Point {
     pub x: u16,
     pub y: u16,
 }
 
 // The pads of a symbol, with zeros behind the count.
-#[derive(Drop)]
+#[derive(Clone, Copy)]
 pub struct PadBlock {
     pub points: [Point; 3],
     pub count: usize,
 }
 
 // The reply to a call for pads: 0 and the pads, or the refusal and zeros.
-#[derive(Drop)]
+#[derive(Clone, Copy)]
 pub struct PadsReply {
     pub reply: u8,
     pub pads: PadBlock,
 }
 
 // A box, by its low and its high corner.
-#[derive(Drop)]
+#[derive(Clone, Copy)]
 pub struct Bounds {
     pub low: Point,
     pub high: Point,
 }
 
 // The reply to a call for a box: 0 and the box, or the refusal and zeros.
-#[derive(Drop)]
+#[derive(Clone, Copy)]
 pub struct BoundsReply {
     pub reply: u8,
     pub bounds: Bounds,

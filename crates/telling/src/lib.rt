@@ -16,7 +16,7 @@ use sheet::{Drawing, Tally};
 use text::{put_byte, put_bytes, put_decimal};
 
 // What came of a line, as an edit tells it, and how many bytes of the lent buffer are what it printed.
-#[derive(Drop)]
+#[derive(Clone, Copy)]
 pub struct Stepped {
     pub reply: u8,
     pub tally: Tally,

@@ -1,10 +1,12 @@
 // Bytes put into a lent buffer. A `put_..` function writes what fits and tells the index behind all that it was to write:
 // so a first run over a byte of one's own tells the length of a text.
+#![tactic(auto)]
+
 ghost use Rattle.std.specs.Prelude.{◌≡◌, [], ◌∷◌, nat_abs};
 ghost use Rattle.text.specs.Text.{Put, Room, decimal_of, signed_of};
 
 // A reply, and how many bytes of the lent buffer were written.
-#[derive(Drop)]
+#[derive(Clone, Copy)]
 pub struct Written {
     pub reply: u8,
     pub length: usize,

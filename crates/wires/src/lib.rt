@@ -11,14 +11,14 @@ use sheet::{Wire, Wires};
 use symbol::Point;
 
 // The pads of all components of a drawing: three times 128 at most.
-#[derive(Drop)]
+#[derive(Clone, Copy)]
 pub struct Points {
     pub rows: [Point; 384],
     pub count: usize,
 }
 
 // A table of wires, or the word that it has no room for what was asked; then it has no rows.
-#[derive(Drop)]
+#[derive(Clone, Copy)]
 pub struct Grown {
     pub full: bool,
     pub table: Wires,

@@ -1,0 +1,41 @@
+-- `next_line` meets its contract: what the rest of the chunk brings to the bytes held is always what the whole chunk brings.
+use mathlib.Core.Path.{refl, sym, ◌∙◌}
+use native.Mathlib.Omega.{arith}
+use borrow.Author.Rules.{rules}
+use Rattle.lines.proofs.Holding.{feed_newline, feed_byte, feed_end}
+use Rattle.lines.proofs.next_line.Goals as goal
+
+pub loop-i-init : goal.loop-i-init
+loop-i-init c = (refl, search rules, search rules, refl, omega arith)
+
+pub shape_of-held-then-b-eq10 : goal.shape_of-held-then-b-eq10
+shape_of-held-then-b-eq10 c = c.loop-i.invariant.3
+
+pub returns-then-b-eq10 : goal.returns-then-b-eq10
+returns-then-b-eq10 c =
+    let l = c.loop-i in
+    record {
+      told = sym (feed_newline _ _ l.i c.loop-i-test.true c.if-b-eq10.true) ∙ l.invariant.0;
+      within = (l.invariant.2, omega arith, omega arith);
+      long = l.invariant.3;
+    }
+
+pub loop-i-preserved : goal.loop-i-preserved
+loop-i-preserved c =
+    let p = c.before.before in
+    let b = p.before.before in
+    let l = b.before.before.before.loop-i in (
+      rw p.push-n.ensures.0 (sym (feed_byte _ _ l.i b.before.before.loop-i-test.true b.if-b-eq10.false) ∙ l.invariant.0),
+      omega arith,
+      p.push-n.ensures.1,
+      p.push-n.auto.0 ∙ l.invariant.3,
+      omega arith,
+    )
+
+pub shape_of-held : goal.shape_of-held
+shape_of-held c = c.loop-i.invariant.3
+
+pub returns : goal.returns
+returns c =
+    let l = c.loop-i in
+    record { told = sym (feed_end _ _ l.i c.loop-i-test.false) ∙ l.invariant.0; within = l.invariant.2; long = l.invariant.3 }

@@ -1,0 +1,11 @@
+-- `orientation::rotate_r` meets its contract: below 8 its table is the definition's.
+use mathlib.Core.Path.{refl, sym}
+use Rattle.orientation.specs.Orientations.{rights}
+use Rattle.orientation.proofs.Turns.{turn_read, turn_none}
+use Rattle.orientation.proofs.rotate_r.Goals as goal
+
+pub returns-then-n-lt8 : goal.returns-then-n-lt8
+returns-then-n-lt8 c = turn_read rights refl c.if-n-lt8.true
+
+pub returns : goal.returns
+returns c = sym (turn_none rights c.args.n c.if-n-lt8.false)
