@@ -20,7 +20,7 @@ loop-j-preserved c =
     let l = c.loop-j in
     let p = c.put_byte-next in (
       omega arith,
-      p.auto.0 ∙ l.invariant.1,
+      p.auto.out ∙ l.invariant.1,
       todo_step l.invariant.2 (drop-cons a.bytes.now l.j 0 c.loop-j-test.true ∙ ap (λ k. get_or a.bytes.now l.j 0 ∷ drop k a.bytes.now) (sym (add-one l.j))) p.ensures,
     )
 
