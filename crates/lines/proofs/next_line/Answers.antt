@@ -22,13 +22,12 @@ returns-then-b-eq10 c =
 
 pub loop-i-preserved : goal.loop-i-preserved
 loop-i-preserved c =
-    let p = c.before.before in
-    let b = p.before.before in
-    let l = b.before.before.before.loop-i in (
-      rw p.push-n.ensures.0 (sym (feed_byte _ _ l.i b.before.before.loop-i-test.true b.if-b-eq10.false) ∙ l.invariant.0),
+    let p = c.push-n in
+    let l = c.loop-i in (
+      rw p.ensures.0 (sym (feed_byte _ _ l.i c.loop-i-test.true c.if-b-eq10.false) ∙ l.invariant.0),
       omega arith,
-      p.push-n.ensures.1,
-      p.push-n.auto.0 ∙ l.invariant.3,
+      p.ensures.1,
+      p.auto.held ∙ l.invariant.3,
       omega arith,
     )
 

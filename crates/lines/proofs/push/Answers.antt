@@ -6,9 +6,9 @@ use Rattle.lines.proofs.push.Goals as goal
 pub returns-then-n-lt81 : goal.returns-then-n-lt81
 returns-then-n-lt81 c =
     let a = c.args in
-    (push_more a.held.now a.n a.b c.requires.0 c.if-n-lt81.true, omega arith)
+    (push_more a.held.now a.n a.b c.requires.in_bounds c.if-n-lt81.true, omega arith)
 
 pub returns-else-n-lt81 : goal.returns-else-n-lt81
 returns-else-n-lt81 c =
     let a = c.args in
-    (push_full a.held.now a.n a.b c.requires.0 c.if-n-lt81.false c.requires.1, c.requires.1)
+    (push_full a.held.now a.n a.b c.requires.in_bounds c.if-n-lt81.false c.requires.n_bound, c.requires.n_bound)
