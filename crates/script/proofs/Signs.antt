@@ -9,7 +9,7 @@ use mir.Val.{to_z, of_z, SFits}
 use mir.Facts.{to_z-of_z, to_z_pos}
 
 pub back : (z : ℤ) → mag z < 2 ^ 31 → to_z w32 (of_z w32 z) ≡ z
-back z h = to_z-of_z (record { sfits = h })
+back z h = to_z-of_z {w = w32} {z = z} (record { sfits = h })
 
 mag_neg : (v : ℕ) → mag (neg_ℤ (pos v)) ≤ v
 mag_neg zero = omega arith

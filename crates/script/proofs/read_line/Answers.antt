@@ -12,18 +12,15 @@ returns-then-line-eq0 c = line_empty _ c.if-line-eq0.true
 
 pub returns-then-letter-eq112 : goal.returns-then-letter-eq112
 returns-then-letter-eq112 c =
-    let d = c.before.before.before in
-    c.place_line_lem.ensures ∙ line_place _ d.before.if-line-gt80.false d.if-line-eq0.false c.if-letter-eq112.true
+    c.place_line.ensures ∙ line_place _ c.if-line-gt80.false c.if-line-eq0.false c.if-letter-eq112.true
 
 pub returns-then-line-eq1 : goal.returns-then-line-eq1
 returns-then-line-eq1 c = line_nets _ c.if-letter-eq110.true c.if-line-eq1.true
 
 pub returns-then-letter-eq110 : goal.returns-then-letter-eq110
 returns-then-letter-eq110 c =
-    let d = c.before.before.before.before in
-    line_long_nets _ d.before.if-line-gt80.false d.if-line-eq0.false c.if-letter-eq110.true c.if-line-eq1.false
+    line_long_nets _ c.if-line-gt80.false c.if-line-eq0.false c.if-letter-eq110.true c.if-line-eq1.false
 
 pub returns : goal.returns
 returns c =
-    let d = c.before.before.before.before in
-    c.three_line_lem.ensures ∙ line_three _ d.before.if-line-gt80.false d.if-line-eq0.false c.if-letter-eq112.false c.if-letter-eq110.false
+    c.three_line.ensures ∙ line_three _ c.if-line-gt80.false c.if-line-eq0.false c.if-letter-eq112.false c.if-letter-eq110.false

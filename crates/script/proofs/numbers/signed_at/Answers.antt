@@ -16,5 +16,5 @@ overflow_add-at c =
 pub returns : goal.returns
 returns c =
     let a = c.args in
-    rw (back c.signed.result c.signed.type-inv, c.signed.ensures)
+    rw (back c.signed.result c.signed.type_inv, c.signed.ensures)
     (sym (signed_some a.minus a.line.now a.at c.digit_at-first.ensures c.if-first-ge10.false c.digits-d.ensures.0))
