@@ -1,4 +1,6 @@
 // The pads and the box of a component by its coordinates, whole numbers as document 01 has them.
+#![tactic(auto)]
+
 ghost use Rattle.std.specs.Prelude.{◌≡◌};
 ghost use Rattle.component.specs.Answers.{component_pads_of, component_box_of, held_of, shown_of};
 

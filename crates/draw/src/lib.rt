@@ -1,4 +1,6 @@
 // Shapes, and the symbols' shapes: what is drawn of a symbol, turned and moved.
+#![tactic(auto)]
+
 ghost use Rattle.std.specs.Prelude.{◌≡◌};
 ghost use Rattle.std.specs.Float.{binary32};
 ghost use Rattle.std.specs.Float.Ieee.{add};

@@ -1,5 +1,6 @@
 // A drawing as it is held: rows of wires, components and joints, each in row order, with zero rows behind the count.
 // Coordinates are held plus 6,000, so that none is negative.
+#![tactic(auto)]
 
 // line: y of a horizontal wire, x of a vertical one; start and end along it.
 #[derive(Clone, Copy)]

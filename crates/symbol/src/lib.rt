@@ -1,4 +1,6 @@
 // The symbols: pads and boxes of components, turned and moved, in the numbers that rows hold.
+#![tactic(auto)]
+
 ghost use Rattle.std.specs.Prelude.{◌≡◌, ◌≤◌};
 ghost use Rattle.orientation.specs.Orientations.{eighth};
 ghost use Rattle.symbol.specs.Symbols.{Positioned, Placeable, known_symbol, moved_of, pad_block, bounds_at, touches_of};

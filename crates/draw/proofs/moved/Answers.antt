@@ -1,35 +1,24 @@
 -- The four numbers of the orientation come out of their bits as they were.
-use borrow.Author.Rules.{rules}
 use mathlib.Core.Path.{◌≡◌, ◌∙◌}
 use lib.IntN.{ℤ}
 use lib.Ieee.{Float, binary32, add}
 use mir.Syntax.{w8}
 use mir.Facts.{to_z-of_z}
 use Rattle.float.specs.Drawn.{turned}
-use Rattle.draw.proofs.moved.Statement.{statement}
-use Rattle.draw.proofs.moved.Tie as tie
+use Rattle.draw.proofs.moved.Goals as goal
 
 read : {r : Float} {a b a' b' : ℤ} (x y t : Float) → r ≡ add binary32 (turned a b x y) t → a ≡ a' → b ≡ b' → r ≡ add binary32 (turned a' b' x y) t
 read x y t e f g = e ∙ (λ j. add binary32 (turned (f j) (g j) x y) t)
 
-drawn-requires : tie.Need-drawn-requires
-drawn-requires c κs = search rules
-
-drawn-requires-2 : tie.Need-drawn-requires-2
-drawn-requires-2 c κs = search rules
-
-returns : tie.Need-returns
+pub returns : goal.returns
 returns c =
-    let s = c.before.before.before.before.before.before.args in
-    let fits = c.before.before.before.before.before.struct_told.given in
+    let s = c.args in
+    let fits = c.struct_told-1.given in
     let a = to_z-of_z {w = w8} {z = s.o.0} (record { sfits = fits.0.1 }) in
     let b = to_z-of_z {w = w8} {z = s.o.1} (record { sfits = fits.1.0.1 }) in
     let d = to_z-of_z {w = w8} {z = s.o.2} (record { sfits = fits.1.1.0.1 }) in
     let e = to_z-of_z {w = w8} {z = s.o.3} (record { sfits = fits.1.1.1.0.1 }) in
     λ i. record {
-      x = read s.p.x s.p.y s.t.x c.before.before.before.drawn.ensures a b i;
-      y = read s.p.x s.p.y s.t.y c.drawn2.ensures d e i;
+      x = read s.p.x s.p.y s.t.x c.drawn-rx.ensures a b i;
+      y = read s.p.x s.p.y s.t.y c.drawn-ry.ensures d e i;
     }
-
-pub moved-spec : {M : Type 1} → statement M
-moved-spec = tie.close (tie.spec drawn-requires drawn-requires-2 returns)

@@ -1,0 +1,6 @@
+-- `component::held` meets its contract: what `held_position` finds.
+use Rattle.component.proofs.Answers.{held_at}
+use Rattle.component.proofs.held.Goals as goal
+
+pub returns : goal.returns
+returns c = held_at c.args.x c.ranges.x c.held_position-p.ensures
