@@ -1,11 +1,21 @@
 // Standard input and output of a program. What fails is told on standard error, and the caller is told to stop.
+#![tactic(auto)]
+
 pub mod output;
 
 ghost use Rattle.std.specs.Prelude.{length};
 ghost use Rattle.streams.specs.Reads.{Brings, Fills};
 
-use libc::STDIN_FILENO;
 pub use output::{Output, tell_block, write_block};
+use std::io::{Read, Write};
+
+// What a program reads from, what it writes to, and where it tells what fails.
+#[derive(Drop)]
+pub struct Streams<R, W, E> {
+    pub input: R,
+    pub output: W,
+    pub errors: E,
+}
 
 // What a read brings: so many bytes in front of the lent buffer, or the end of the input.
 #[derive(Clone, Copy)]
@@ -23,28 +33,26 @@ pub struct Filled {
 }
 
 // One read of standard input.
-pub fn read_chunk(chunk: &mut [u8]) -> Got
+pub fn read_chunk<R: Read, W, E: Write>(s: &mut Streams<R, W, E>, chunk: &mut [u8]) -> Got
     ensures { Brings (length chunk.new) result }
 {
-    let got = libc::read(STDIN_FILENO, chunk);
-    if got < 0 {
-        os::fail(b"standard input");
-        return Got::Failed;
+    match s.input.read(chunk) {
+        Ok(0) => Got::End,
+        Ok(n) => Got::Bytes(n),
+        Err(e) => {
+            let _ = writeln!(s.errors, "standard input: {e}");
+            Got::Failed
+        }
     }
-    let n = io::count(got, chunk);
-    if n == 0 {
-        return Got::End;
-    }
-    Got::Bytes(n)
 }
 
 // Fills a lent buffer from standard input, until it is full, the input ends or a read fails.
-pub fn fill(buffer: &mut [u8]) -> Filled
+pub fn fill<R: Read, W, E: Write>(s: &mut Streams<R, W, E>, buffer: &mut [u8]) -> Filled
     ensures { Fills (length buffer.new) result }
 {
     let mut count = 0;
     while count < buffer.len() {
-        match read_chunk(&mut buffer[count..]) {
+        match read_chunk(s, &mut buffer[count..]) {
             Got::Bytes(n) => {
                 count += n;
             }

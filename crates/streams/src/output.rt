@@ -3,7 +3,8 @@
 ghost use Rattle.std.specs.Prelude.{◌≡◌};
 ghost use Rattle.streams.specs.Sums.{next_sum, sum_of};
 
-use libc::{STDERR_FILENO, STDOUT_FILENO};
+use crate::Streams;
+use std::io::Write;
 
 // The sum of all that was handed over, and whether a write failed.
 #[derive(Clone, Copy)]
@@ -33,23 +34,30 @@ fn sum_of(sum: u32, block: &[u8]) -> u32
 }
 
 // Hands a block over, behind what was handed over before. A failure is told on standard error.
-pub fn write_block(sum: u32, block: &[u8]) -> Output
+pub fn write_block<R, W: Write, E: Write>(
+    s: &mut Streams<R, W, E>,
+    sum: u32,
+    block: &[u8],
+) -> Output
     ensures { result.sum ≡ sum_of sum block.now }
 {
-    let taken = io::write_all(STDOUT_FILENO, block);
-    if !taken {
-        os::fail(b"standard output");
-    }
+    let failed = match s.output.write_all(block) {
+        Ok(()) => false,
+        Err(e) => {
+            let _ = writeln!(s.errors, "standard output: {e}");
+            true
+        }
+    };
     Output {
         sum: sum_of(sum, block),
-        failed: !taken,
+        failed,
     }
 }
 
 // Hands a block to standard error, behind what was handed over there before: the sum with it. A failure has no other place to be told.
-pub fn tell_block(sum: u32, block: &[u8]) -> u32
+pub fn tell_block<R, W, E: Write>(s: &mut Streams<R, W, E>, sum: u32, block: &[u8]) -> u32
     ensures { result ≡ sum_of sum block.now }
 {
-    io::write_all(STDERR_FILENO, block);
+    let _ = s.errors.write_all(block);
     sum_of(sum, block)
 }
