@@ -86,6 +86,7 @@ numbers_order k met (x ∷ xs) len = by_meet x met (λ s. InOrder k ((rank x s -
 -- a number is one less than the rank of its net among all
 number_at : (met xs : List ℕ) {i x n : ℕ} → At xs i x → At (number_from met xs) i n → suc n ≡ rank x (met_all met xs)
 unfolding number_from met_all
+number_at met [] a b = elim a [ ]
 number_at met (x ∷ xs) first first = let h = rank_met x met in let e : suc (rank x (meet x met) - 1) ≡ rank x (meet x met) = omega arith in e ∙ sym (rank_stays_all x (meet x met) xs h)
 number_at met (y ∷ xs) (later a) (later b) = number_at (meet y met) xs a b
 

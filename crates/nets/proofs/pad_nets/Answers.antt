@@ -1,0 +1,28 @@
+-- `nets::pad_nets` meets its contract, by those of `nets` and `number`.
+use mathlib.Core.Path.{sym, ap, subst, ◌∙◌}
+use mathlib.Core.List.{List, map}
+use Prim.Native.Nat.{ℕ}
+use lib.ListN.{get_or}
+use Rattle.lists.specs.Tables.{pad}
+use Rattle.nets.specs.Nets.{Net}
+use Rattle.nets.specs.Numbers.{net_of, numbering, numbers_of}
+use Rattle.nets.specs.Tables.{Falling, net_in, pad_rows}
+use Rattle.nets.proofs.Tabulate.{tabulate_at, tabulate_falls}
+use Rattle.nets.proofs.Rooted.{net_low}
+use Rattle.nets.proofs.Walks.{map_as}
+use Rattle.nets.proofs.pad_nets.Goals as goal
+
+pub number-requires : goal.number-requires
+number-requires c =
+    record {
+      fact_1 = subst Falling (sym c.nets.ensures) (tabulate_falls _ 1409 (net_low (net_in c.args.wires c.args.powers)));
+      fact_2 = c.requires.fact_3;
+    }
+
+pub returns : goal.returns
+unfolding numbers_of
+returns c =
+    let net : Net ℕ = net_in c.args.wires c.args.powers in
+    c.number.ensures
+    ∙ ap (λ (t : List ℕ). pad 384 0 (numbering (map (λ n. get_or t n 0) (pad_rows c.args.pads)))) c.nets.ensures
+    ∙ ap (λ (xs : List ℕ). pad 384 0 (numbering xs)) (map_as (pad_rows c.args.pads) (λ n i. tabulate_at (net_of net) 1409 n (c.requires.fact_3.joints n i).high))
