@@ -1,7 +1,8 @@
 -- What a lent slice holds are bytes.
 use mathlib.Core.List.Memᴰ.{head as ∈-head}
+use mathlib.Core.List.Memᴰ.{not-nil as ∈-nil}
 use mathlib.Core.List.Memᴰ.{tail as ∈-tail}
-use mathlib.Core.List.{List, ◌∷◌}
+use mathlib.Core.List.{List, [], ◌∷◌}
 use Prim.Native.Nat.{ℕ, suc, ◌<◌}
 use native.Mathlib.Omega.{arith}
 use lib.ListN.{get_or, drop}
@@ -13,6 +14,7 @@ pub all_bytes : (s : List ℕ) → ((i : ℕ) → get_or s i 0 < 256) → Bytes 
 all_bytes s h b m = go s h m
   where
     go : (s : List ℕ) → ((i : ℕ) → get_or s i 0 < 256) → b ∈ s → b < 256
+    go [] h m = absurd (∈-nil m)
     go (x ∷ s) h (∈-head e) = let k = h 0 in omega (arith, e, k)
     go (x ∷ s) h (∈-tail m) = go s (λ i. h (suc i)) m
 

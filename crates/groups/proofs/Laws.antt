@@ -11,7 +11,6 @@ use native.Mathlib.Omega.{arith}
 use lib.Dec.{ltb}
 use lib.ListN.{length}
 use borrow.Author.Tests.{lt-ltb, le-ltb, le-leb, ne_eqb}
-use Rattle.lists.specs.Lists.{◌∈◌}
 use Rattle.lists.proofs.Tests.{Reads, pass, fail, decide, ltb_reads, leb_reads, eqb_reads}
 use Rattle.groups.specs.Taken.{Taken, took, then, bad}
 use Rattle.groups.specs.Groups.{groups_in, groups_of, above, later_groups, take_number, Bytes}

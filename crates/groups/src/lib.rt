@@ -1,4 +1,6 @@
 // Numbers in groups of seven bits, low group first: put into a lent buffer, and read from an index of some bytes on.
+#![tactic(auto)]
+
 ghost use Rattle.std.specs.Prelude.{◌≡◌, ◌≤◌, ◌<◌, length, drop};
 ghost use Rattle.text.specs.Text.{Put, Room};
 ghost use Rattle.groups.specs.Groups.{groups_of, later_groups, take_number, take_in};
