@@ -1,4 +1,6 @@
 // The answers to a call for a shape: of a component, a wire or a joint.
+#![tactic(auto)]
+
 ghost use Rattle.std.specs.Prelude.{◌≡◌, ◌≤◌, nat_abs};
 ghost use Rattle.edge.specs.Coordinates.{ranged};
 ghost use Rattle.orientation.specs.Orientations.{eighth};

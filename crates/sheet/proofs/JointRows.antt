@@ -29,6 +29,7 @@ pub use Rattle.sheet.proofs.Numbers.{number_in, in_number, number_append, number
 -- a row's count is the count at its point
 pub count_in : {js : List Joint} → Rising js → (j : Joint) → j ∈ js → count_at (joint_point j) js ≡ j.count
 unfolding count_at
+count_in none j m = elim m [ ]
 count_in (more {x = i} {xs = js} h r) j (∈-head e) =
     choose (same_reads (joint_point j) (joint_point i)) (λ n. n ≡ j.count) (λ t. ap (λ (k : Joint). k.count) (sym e)) (λ n. absurd (n (ap joint_point e)))
 count_in (more {x = i} {xs = js} h r) j (∈-tail m) = let ih = count_in r j m in

@@ -2,37 +2,29 @@
 use mathlib.Core.Path.{◌≡◌}
 use mathlib.Core.List.Memᴰ.{not-nil as ∈-nil}
 use mathlib.Core.List.{List, [], ◌∷◌}
-use Prim.Native.Nat.{ℕ}
 use lib.ListN.{length}
 use mir.Val.{Val}
 use denote.Array.{each}
 use denote.Shadow.{shadow}
 use denote.RattleType.{owns, Valss}
 use denote.Struct.Declared.{shape}
-use borrow.Author.Rules.{length_unmapped}
 use Rattle.lists.specs.Lists.{◌∈◌}
 use Rattle.lists.proofs.Lists.{in_cons}
-use Rattle.lists.proofs.Tables.{long}
 use Rattle.sheet.specs.declared.Component.{Component}
 use Rattle.sheet.specs.declared.Drawing.{Drawing}
 use Rattle.sheet.specs.Drawings.{Sized}
 use Rattle.sheet.specs.contracts.Component as component
-use Rattle.sheet.specs.contracts.Components as components
 use Rattle.sheet.specs.contracts.Drawing as drawing
 
--- the component rows, as they stand in what owning them tells
-abbrev told : List Component → List (component.the_field).row.Denot
-told rows = ((components.the_type).to (record { rows = rows; count = 0 })).0
-
-labels : (rows : List Component) (us : List Val) → shadow (each (component.the_field).row.Denot (component.the_field).row.own_val (told rows) us) → (c : Component) → c ∈ rows → length c.label ≡ 16
+labels : (rows : List Component) (us : List Val) → shadow (each (component.the_row).Denot (component.the_row).own_val rows us) → (c : Component) → c ∈ rows → length c.label ≡ 16
 labels [] us h c m = absurd (∈-nil m)
 labels (r ∷ rows) [] h c m = absurd h
-labels (r ∷ rows) (u ∷ us) h c m = in_cons (λ (b : Component). length b.label ≡ 16) (length_unmapped ℕ r.label 16 h.0.1.1.1.1.1.1.0.1.0.1) (labels rows us h.1) m
+labels (r ∷ rows) (u ∷ us) h c m = in_cons (λ (b : Component). length b.label ≡ 16) h.0.1.1.1.1.1.1.0.1.0.1 (labels rows us h.1) m
 
 pub owned : (d : Drawing) (us : Valss (shape drawing.the_type).fields) → shadow (owns (shape drawing.the_type).fields ((drawing.the_type).to d) us) → Sized d
 owned d us g = record {
-  wires = long _ _ _ d.wires.rows 512 g.0.1.1.0.1.0.1;
-  components = long _ _ _ d.components.rows 128 g.1.0.1.1.0.1.0.1;
-  joints = long _ _ _ d.joints.rows 1408 g.1.1.0.1.1.0.1.0.1;
+  wires = g.0.1.1.0.1.0.1;
+  components = g.1.0.1.1.0.1.0.1;
+  joints = g.1.1.0.1.1.0.1.0.1;
   labels = labels d.components.rows g.1.0.1.1.0.0 g.1.0.1.1.0.1.1;
 }

@@ -13,7 +13,6 @@ use Rattle.lists.proofs.Lists.{in_cons, in_one}
 use Rattle.lists.proofs.Order.{rows_one}
 use Rattle.symbol.specs.declared.Point.{Point}
 use Rattle.sheet.specs.declared.Wire.{Wire}
-use Rattle.sheet.specs.Points.{same}
 use Rattle.sheet.specs.Geometry.{along, across, at, Ends, Inside, Side, low, high, Before, same_line}
 use Rattle.sheet.specs.Split.{left, right, split_one}
 use Rattle.sheet.specs.Wiring.{Fits}
