@@ -1,158 +1,145 @@
 // Prints the turns, boxes and pads of all kinds and orientations at a few positions, and refusals; held to what the Rust prints.
-use component::{BoxAnswer, PadsAnswer, Position};
-use libc::STDOUT_FILENO;
-use orientation::Turned;
+#![tactic(auto)]
 
-fn put(text: &[u8]) {
-    io::write_all(STDOUT_FILENO, text);
-}
+use component::{BoxAnswer, PadsAnswer, Position};
+use orientation::Turned;
+use std::io;
 
 // A space and a number.
-fn put_number(n: u16) {
-    put(b" ");
-    io::print_decimal(STDOUT_FILENO, n as u64);
+fn put_number(rt: &impl Print, n: u16) -> io::Result<()> {
+    print!(rt; " {n}")
 }
 
 // A space and a coordinate; one outside the range of wire ends as *.
-fn put_coordinate(x: i32) {
+fn put_coordinate(rt: &impl Print, x: i32) -> io::Result<()> {
     let p = edge::held_coordinate(x);
     if !p.within {
-        put(b" *");
-        return;
+        return print!(rt; " *");
     }
     let n = p.at;
     if n < 6000 {
-        put(b" -");
-        io::print_decimal(STDOUT_FILENO, (6000 - n) as u64);
+        let below = 6000 - n;
+        print!(rt; " -{below}")
     } else {
-        put_number(n - 6000);
+        put_number(rt, n - 6000)
     }
 }
 
-fn put_point(p: Position) {
-    put_coordinate(p.x);
-    put_coordinate(p.y);
+fn put_point(rt: &impl Print, p: Position) -> io::Result<()> {
+    put_coordinate(rt, p.x)?;
+    put_coordinate(rt, p.y)
 }
 
 // A space and the number of what a turn gives.
-fn put_turned(t: Turned) {
+fn put_turned(rt: &impl Print, t: Turned) -> io::Result<()> {
     if t.reply == 0 {
-        put_number(t.turn as u16);
+        put_number(rt, t.turn as u16)
     } else {
-        put(b" *");
+        print!(rt; " *")
     }
 }
 
-fn put_turns(orient: u8) {
-    put(b"T");
-    put_number(orient as u16);
-    put(b":");
-    put_turned(orientation::rotate_r(orient));
-    put_turned(orientation::rotate_l(orient));
-    put_turned(orientation::mirror(orient));
-    put(b"\n");
+fn put_turns(rt: &impl Print, orient: u8) -> io::Result<()> {
+    print!(rt; "T {orient}:")?;
+    put_turned(rt, orientation::rotate_r(orient))?;
+    put_turned(rt, orientation::rotate_l(orient))?;
+    put_turned(rt, orientation::mirror(orient))?;
+    println!(rt; "")
 }
 
-fn put_kind(kind: u8) {
-    put(b"K");
-    put_number(kind as u16);
-    put(b":");
-    put_number(if orientation::can_turn(kind) { 1 } else { 0 });
-    put(b"\n");
+fn put_kind(rt: &impl Print, kind: u8) -> io::Result<()> {
+    let turns = if orientation::can_turn(kind) { 1 } else { 0 };
+    println!(rt; "K {kind}: {turns}")
 }
 
-fn put_asked(kind: u8, orient: u8, x: i32, y: i32) {
-    put_number(kind as u16);
-    put_number(orient as u16);
-    put_coordinate(x);
-    put_coordinate(y);
-    put(b":");
+fn put_asked(rt: &impl Print, kind: u8, orient: u8, x: i32, y: i32) -> io::Result<()> {
+    print!(rt; " {kind} {orient}")?;
+    put_coordinate(rt, x)?;
+    put_coordinate(rt, y)?;
+    print!(rt; ":")
 }
 
-fn put_box(b: BoxAnswer) {
+fn put_box(rt: &impl Print, b: BoxAnswer) -> io::Result<()> {
     if b.reply == 0 {
-        put_point(b.low);
-        put_point(b.high);
+        put_point(rt, b.low)?;
+        put_point(rt, b.high)?;
     } else {
-        put_number(b.reply as u16);
+        put_number(rt, b.reply as u16)?;
     }
-    put(b"\n");
+    println!(rt; "")
 }
 
-fn put_pads(p: PadsAnswer) {
+fn put_pads(rt: &impl Print, p: PadsAnswer) -> io::Result<()> {
     let points = p.points;
     if p.reply == 0 {
-        put(b" ");
-        io::print_decimal(STDOUT_FILENO, p.count as u64);
+        let count = p.count;
+        print!(rt; " {count}")?;
         if 0 < p.count {
-            put_point(points[0]);
+            put_point(rt, points[0])?;
         }
         if 1 < p.count {
-            put_point(points[1]);
+            put_point(rt, points[1])?;
         }
         if 2 < p.count {
-            put_point(points[2]);
+            put_point(rt, points[2])?;
         }
     } else {
-        put_number(p.reply as u16);
+        put_number(rt, p.reply as u16)?;
     }
-    put(b"\n");
+    println!(rt; "")
 }
 
-fn put_symbol(kind: u8, orient: u8, x: i32, y: i32) {
-    put(b"B");
-    put_asked(kind, orient, x, y);
-    put_box(component::component_box(kind, orient, x, y));
-    put(b"P");
-    put_asked(kind, orient, x, y);
-    put_pads(component::component_pads(kind, orient, x, y));
+fn put_symbol(rt: &impl Print, kind: u8, orient: u8, x: i32, y: i32) -> io::Result<()> {
+    print!(rt; "B")?;
+    put_asked(rt, kind, orient, x, y)?;
+    put_box(rt, component::component_box(kind, orient, x, y))?;
+    print!(rt; "P")?;
+    put_asked(rt, kind, orient, x, y)?;
+    put_pads(rt, component::component_pads(kind, orient, x, y))
 }
 
 // A kind in all orientations at one position.
-fn put_kind_at(kind: u8, x: i32, y: i32) {
+fn put_kind_at(rt: &impl Print, kind: u8, x: i32, y: i32) -> io::Result<()> {
     for orient in 0u8..8 {
-        put_symbol(kind, orient, x, y);
+        put_symbol(rt, kind, orient, x, y)?;
     }
+    Ok(())
 }
 
-fn put_kinds_at(x: i32, y: i32) {
-    put_kind_at(0, x, y);
-    put_kind_at(1, x, y);
-    put_kind_at(2, x, y);
+fn put_kinds_at(rt: &impl Print, x: i32, y: i32) -> io::Result<()> {
+    put_kind_at(rt, 0, x, y)?;
+    put_kind_at(rt, 1, x, y)?;
+    put_kind_at(rt, 2, x, y)
 }
 
-fn put_all_turns() {
-    put_turns(0);
-    put_turns(1);
-    put_turns(2);
-    put_turns(3);
-    put_turns(4);
-    put_turns(5);
-    put_turns(6);
-    put_turns(7);
+fn put_all_turns(rt: &impl Print) -> io::Result<()> {
+    for orient in 0u8..8 {
+        put_turns(rt, orient)?;
+    }
+    Ok(())
 }
 
-fn put_refusals() {
-    put_symbol(3, 0, 0, 0);
-    put_symbol(0, 8, 0, 0);
-    put_symbol(1, 0, 5801, 0);
-    put_symbol(1, 0, 0, -5801);
-    put(b"B 9 9 9999 9999:");
-    put_box(component::component_box(9, 9, 9999, 9999));
-    put(b"P 9 9 9999 9999:");
-    put_pads(component::component_pads(9, 9, 9999, 9999));
+fn put_refusals(rt: &impl Print) -> io::Result<()> {
+    put_symbol(rt, 3, 0, 0, 0)?;
+    put_symbol(rt, 0, 8, 0, 0)?;
+    put_symbol(rt, 1, 0, 5801, 0)?;
+    put_symbol(rt, 1, 0, 0, -5801)?;
+    print!(rt; "B 9 9 9999 9999:")?;
+    put_box(rt, component::component_box(9, 9, 9999, 9999))?;
+    print!(rt; "P 9 9 9999 9999:")?;
+    put_pads(rt, component::component_pads(9, 9, 9999, 9999))
 }
 
-fn main() {
-    put_all_turns();
-    put_kind(0);
-    put_kind(1);
-    put_kind(2);
-    put_kinds_at(0, 0);
-    put_kinds_at(-5800, -5800);
-    put_kinds_at(5800, 5800);
-    put_kinds_at(-5800, 5800);
-    put_kinds_at(137, -4211);
-    put_kinds_at(-7, 9);
-    put_refusals();
+fn main(rt: HostRuntime) -> io::Result<()> {
+    put_all_turns(&rt)?;
+    put_kind(&rt, 0)?;
+    put_kind(&rt, 1)?;
+    put_kind(&rt, 2)?;
+    put_kinds_at(&rt, 0, 0)?;
+    put_kinds_at(&rt, -5800, -5800)?;
+    put_kinds_at(&rt, 5800, 5800)?;
+    put_kinds_at(&rt, -5800, 5800)?;
+    put_kinds_at(&rt, 137, -4211)?;
+    put_kinds_at(&rt, -7, 9)?;
+    put_refusals(&rt)
 }
