@@ -82,7 +82,7 @@ module _ (s : List ℕ) (at b : ℕ) (h : at < length s) (e : b ≡ get_or s at 
   zero_group zero z = rw (eq-eqb b 0 z)
   zero_group (suc k) z = rw (eq-eqb b 0 z)
 
-  pub zero_in : (k : ℕ) → b ≡ 0 → refused 13 ≡ later_groups k (drop at s)
+  zero_in : (k : ℕ) → b ≡ 0 → refused 13 ≡ later_groups k (drop at s)
   zero_in k z = zero_group k z ∙ ap (later_groups k) (sym here)
 
   module _ (some : b ≡ 0 → ⊥) where
@@ -131,3 +131,7 @@ module _ (s : List ℕ) (at b : ℕ) (h : at < length s) (e : b ≡ get_or s at 
 
   pub several_in : (n r : Number) → 128 ≤ b → number_at s n ≡ later_groups 3 (drop (at + 1) s) → r ≡ above_in (b % 128) n → number_at s r ≡ take_number (drop at s)
   several_in n r l g q = ap (number_at s) q ∙ above_at s (b % 128) n ∙ ap (above (b % 128)) g ∙ several l ∙ ap take_number (sym here)
+
+-- the byte at the index is 0
+pub zero_at : (s : List ℕ) (at k : ℕ) → at < length s → get_or s at 0 ≡ 0 → refused 13 ≡ later_groups k (drop at s)
+zero_at s at k h z = zero_in s at (get_or s at 0) h refl k z

@@ -45,6 +45,7 @@ fn with_low(low: u32, n: Number) -> Number
 }
 
 // A later group and those above it, of which `left` may follow. `left` falls at each call.
+#[tactic(auto, using(crate::proofs::Reading::zero_at))]
 fn later_groups(bytes: &[u8], at: usize, left: usize) -> Number
     requires { left ≤ 3 }
     ensures is { number_at bytes.now result ≡ later_groups left (drop at bytes.now) }
