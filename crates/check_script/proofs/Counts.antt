@@ -1,5 +1,5 @@
 -- Lines that tell a count outright, by what the functions look at.
-use mathlib.Core.Path.{◌≡◌, refl, sym, subst}
+use mathlib.Core.Path.{◌≡◌, refl, subst}
 use mathlib.Core.Bool.{true, false}
 use mathlib.Core.List.{List, [], ◌∷◌}
 use Prim.Native.Nat.{ℕ, ◌<◌, ◌≤◌, ◌^◌}
@@ -9,7 +9,7 @@ use borrow.Author.Tests.{ltb-true, ne_eqb}
 use lib.Dec.{T}
 use lib.ListN.{length, get_or, drop}
 use lib.IntN.{ℤ, pos, negsuc, nat_abs}
-use lib.Signed.{lt_z, non_neg, mag}
+use lib.Signed.{lt_z, non_neg}
 use mir.Syntax.{w32, w64}
 use mir.Val.{SFits, Fits, to_z, of_z}
 use mir.Facts.{to_z-of_z}

@@ -1,5 +1,7 @@
 // Reads one line of a drawing as `panel_check` takes it: which row it gives, or which count. What a line says is the definition of
 // specs/Grammar.antt; `said_of` is that definition as a function.
+#![tactic(auto)]
+
 pub mod fields;
 
 ghost use Rattle.std.specs.Prelude.{◌≡◌, length, drop};
