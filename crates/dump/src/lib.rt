@@ -1,4 +1,6 @@
 // The rows of a drawing as text in a lent buffer.
+#![tactic(auto)]
+
 mod rows;
 mod tables;
 
