@@ -1,4 +1,6 @@
 // Tables of wires by value: each function does to the rows in use what its definition says of lists.
+#![tactic(auto)]
+
 pub mod geometry;
 pub mod split;
 pub mod square;

@@ -1,6 +1,7 @@
 -- The tests of each way out, in the order of the refusals, and the shape at its place.
+use mathlib.Core.Path.{refl}
+use Rattle.draw.specs.declared.Choice.TheVariants.{Of, Nothing}
 use lib.Dec.{lit≤}
-use borrow.Author.Tests.{not-true, not-false}
 use Rattle.cad.proofs.Positions.{tested, converted, small_two}
 use Rattle.cad.proofs.Components.{unknown, off_sheet, mislabelled, past, shown}
 use Rattle.cad.proofs.component.Goals as goal
@@ -10,35 +11,30 @@ returns-then-not-is_known c = let s = c.args in unknown s.kind s.orientation s.x
 
 pub returns-then-not-is_position : goal.returns-then-not-is_position
 returns-then-not-is_position c =
-    let s = c.before.before.before.before.before in
-    let X = tested 5800 s.ranges.x c.is_position.ensures in
-    let Y = tested 5800 s.ranges.y c.is_position-2.ensures in
-    off_sheet s.args.kind s.args.orientation s.args.label s.args.i s.args.a s.args.b c.is_known.ensures c.if-not-is_known.false X Y c.if-not-is_position.true
+    let X = tested 5800 c.ranges.x c.is_position.ensures in
+    let Y = tested 5800 c.ranges.y c.is_position-2.ensures in
+    off_sheet c.args.kind c.args.orientation c.args.label c.args.i c.args.a c.args.b c.is_known.ensures c.if-not-is_known.false X Y c.if-not-is_position.true
 
 pub returns-then-held-ne0 : goal.returns-then-held-ne0
 returns-then-held-ne0 c =
-    let s = c.before.before.before.before.before.before.before.before in
-    let X = tested 5800 s.ranges.x c.is_position.ensures in
-    let Y = tested 5800 s.ranges.y c.is_position-2.ensures in
-    mislabelled s.args.kind s.args.orientation s.args.label s.args.i s.args.a s.args.b c.is_known.ensures c.if-not-is_known.false X Y c.if-not-is_position.false c.held_label-held.ensures c.if-held-ne0.true
+    let X = tested 5800 c.ranges.x c.is_position.ensures in
+    let Y = tested 5800 c.ranges.y c.is_position-2.ensures in
+    mislabelled c.args.kind c.args.orientation c.args.label c.args.i c.args.a c.args.b c.is_known.ensures c.if-not-is_known.false X Y c.if-not-is_position.false c.held_label-held.ensures c.if-held-ne0.true
 
 pub convert-requires : goal.convert-requires
 convert-requires c =
-    let s = c.before.before.before.before.before.before.before.before.before.before.before.before in
-    let X = tested 5800 s.ranges.x c.is_position.ensures in
-    let Y = tested 5800 s.ranges.y c.is_position-2.ensures in
+    let X = tested 5800 c.ranges.x c.is_position.ensures in
+    let Y = tested 5800 c.ranges.y c.is_position-2.ensures in
     small_two X Y (lit≤ tt) c.if-not-is_position.false
 
 pub returns-in-Of : goal.returns-in-Of
 returns-in-Of c =
-    let s = c.before.before.before.before.before.before.before.before.before.before.before.before.before.before in
-    let X = tested 5800 s.ranges.x c.is_position.ensures in
-    let Y = tested 5800 s.ranges.y c.is_position-2.ensures in
-    shown s.args.kind s.args.orientation s.args.label s.args.i s.args.a s.args.b c.is_known.ensures c.if-not-is_known.false X Y c.if-not-is_position.false c.held_label-held.ensures c.if-held-ne0.false c.shape.result c.shape.ensures c.d-1.given.1 (converted X Y c.convert.ensures) c.turned.ensures
+    let X = tested 5800 c.ranges.x c.is_position.ensures in
+    let Y = tested 5800 c.ranges.y c.is_position-2.ensures in
+    shown c.args.kind c.args.orientation c.args.label c.args.i c.args.a c.args.b c.is_known.ensures c.if-not-is_known.false X Y c.if-not-is_position.false c.held_label-held.ensures c.if-held-ne0.false (Of c.in-Of.d) c.in-Of.ensures refl (converted X Y c.convert.ensures) c.turned.ensures
 
 pub returns-in-Nothing : goal.returns-in-Nothing
 returns-in-Nothing c =
-    let s = c.before.before.before.before.before.before.before.before.before.before.before in
-    let X = tested 5800 s.ranges.x c.is_position.ensures in
-    let Y = tested 5800 s.ranges.y c.is_position-2.ensures in
-    past s.args.kind s.args.orientation s.args.label s.args.i s.args.a s.args.b c.is_known.ensures c.if-not-is_known.false X Y c.if-not-is_position.false c.held_label-held.ensures c.if-held-ne0.false c.shape.result c.shape.ensures c.enum_told-1.given.1
+    let X = tested 5800 c.ranges.x c.is_position.ensures in
+    let Y = tested 5800 c.ranges.y c.is_position-2.ensures in
+    past c.args.kind c.args.orientation c.args.label c.args.i c.args.a c.args.b c.is_known.ensures c.if-not-is_known.false X Y c.if-not-is_position.false c.held_label-held.ensures c.if-held-ne0.false Nothing c.in-Nothing.ensures refl
