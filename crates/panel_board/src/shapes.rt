@@ -3,48 +3,58 @@
 use crate::print::put;
 use cad::Shape;
 use label::{Label, label_of};
+use std::io;
 
-fn put_shape(asked: &[u8], s: Shape) {
-    put(asked);
+fn put_shape(rt: &impl Print, asked: &[u8], s: Shape) -> io::Result<()> {
+    put(rt, asked)?;
     match s {
-        Shape::Drawn(_) => put(b": drawn\n"),
-        Shape::NoShape => put(b": no shape\n"),
-        Shape::Outside => put(b": 1\n"),
-        Shape::Reversed => put(b": 2\n"),
-        Shape::Unknown => put(b": 4\n"),
-        Shape::Mislabelled => put(b": 5\n"),
+        Shape::Drawn(_) => put(rt, b": drawn\n"),
+        Shape::NoShape => put(rt, b": no shape\n"),
+        Shape::Outside => put(rt, b": 1\n"),
+        Shape::Reversed => put(rt, b": 2\n"),
+        Shape::Unknown => put(rt, b": 4\n"),
+        Shape::Mislabelled => put(rt, b": 5\n"),
     }
 }
 
 // A component at (x, 0) in its first orientation.
-fn shape(asked: &[u8], kind: u8, x: i32, label: &[u8], i: usize) {
+fn shape(
+    rt: &impl Print,
+    asked: &[u8],
+    kind: u8,
+    x: i32,
+    label: &[u8],
+    i: usize,
+) -> io::Result<()> {
     put_shape(
+        rt,
         asked,
         cad::component(kind, 0, x, 0, label_of(label), i, true, false),
-    );
+    )
 }
 
-pub(crate) fn shapes() {
-    put(b"# shapes\n");
+pub(crate) fn shapes(rt: &impl Print) -> io::Result<()> {
+    put(rt, b"# shapes\n")?;
     let none = Label {
         bytes: [0u8; 16],
         length: 17,
     };
     put_shape(
+        rt,
         b"no orientation",
         cad::component(1, 8, 5801, 0, none, 99, true, false),
-    );
-    shape(b"no kind", 3, 5801, b"K K", 99);
-    shape(b"outside", 1, 5801, b"K K", 99);
-    shape(b"a bad label", 1, 5800, b"K K", 99);
-    shape(b"power 2", 0, 5800, b"", 2);
-    shape(b"power 3", 0, 5800, b"", 3);
-    shape(b"contact 7", 1, -5800, b"K1", 7);
-    shape(b"coil 7", 2, -5800, b"K1", 7);
-    put_shape(b"wire 6001 5 4", cad::wire(false, 6001, 5, 4));
-    put_shape(b"wire 6000 5 4", cad::wire(true, 6000, 5, 4));
-    put_shape(b"wire 6000 5 5", cad::wire(true, 6000, 5, 5));
-    put_shape(b"joint 6001 0 0", cad::junction(6001, 0, 0));
-    put_shape(b"joint 0 0 2", cad::junction(0, 0, 2));
-    put_shape(b"joint 0 0 1", cad::junction(0, 0, 1));
+    )?;
+    shape(rt, b"no kind", 3, 5801, b"K K", 99)?;
+    shape(rt, b"outside", 1, 5801, b"K K", 99)?;
+    shape(rt, b"a bad label", 1, 5800, b"K K", 99)?;
+    shape(rt, b"power 2", 0, 5800, b"", 2)?;
+    shape(rt, b"power 3", 0, 5800, b"", 3)?;
+    shape(rt, b"contact 7", 1, -5800, b"K1", 7)?;
+    shape(rt, b"coil 7", 2, -5800, b"K1", 7)?;
+    put_shape(rt, b"wire 6001 5 4", cad::wire(false, 6001, 5, 4))?;
+    put_shape(rt, b"wire 6000 5 4", cad::wire(true, 6000, 5, 4))?;
+    put_shape(rt, b"wire 6000 5 5", cad::wire(true, 6000, 5, 5))?;
+    put_shape(rt, b"joint 6001 0 0", cad::junction(6001, 0, 0))?;
+    put_shape(rt, b"joint 0 0 2", cad::junction(0, 0, 2))?;
+    put_shape(rt, b"joint 0 0 1", cad::junction(0, 0, 1))
 }

@@ -4,30 +4,31 @@ ghost use Rattle.std.specs.Prelude.{◌≤◌, length};
 use crate::print::{put, put_drawing, put_front, put_row};
 use line_call::step;
 use sheet::{Drawing, Tally};
+use std::io;
 use step::NO_TALLY;
 use telling::Stepped;
 
 // A line: the reply and the row that it tells; or what the call prints, and behind an edit the tally and all rows.
-fn answer(d: Drawing, t: Tally, line: &[u8], told: bool) -> Stepped {
-    put(b"> ");
-    put(line);
-    put(b"\n");
+fn answer(rt: &impl Print, d: Drawing, t: Tally, line: &[u8], told: bool) -> io::Result<Stepped> {
+    put(rt, b"> ")?;
+    put(rt, line)?;
+    put(rt, b"\n")?;
     let mut out = [0u8; 8192];
     let s = step(d, line, t, &mut out);
     if told {
-        put_row(s.reply, s.row);
-        return s;
+        put_row(rt, s.reply, s.row)?;
+        return Ok(s);
     }
-    put_front(&out, s.length);
+    put_front(rt, &out, s.length)?;
     let first = if 0 < line.len() { line[0] } else { 0 };
     if first == b'n' {
-        put(b".\n");
+        put(rt, b".\n")?;
     } else {
         let after = s.drawing;
         let sums = s.tally;
-        put_drawing(after, sums);
+        put_drawing(rt, after, sums)?;
     }
-    s
+    Ok(s)
 }
 
 // The index of the end of the line that begins at an index.
@@ -46,33 +47,38 @@ fn line_end(text: &[u8], at: usize) -> usize
 }
 
 // All lines of a text, from a drawing on.
-fn lines(d: Drawing, text: &[u8], told: bool) -> Drawing {
+fn lines(rt: &impl Print, d: Drawing, text: &[u8], told: bool) -> io::Result<Drawing> {
     let mut drawing = d;
     let mut tally = NO_TALLY;
     let mut at: usize = 0;
     while at < text.len() {
         let end = line_end(text, at);
-        let s = answer(drawing, tally, &text[at..end], told);
+        let s = answer(rt, drawing, tally, &text[at..end], told)?;
         drawing = s.drawing;
         tally = s.tally;
         if end == text.len() {
-            return drawing;
+            return Ok(drawing);
         }
         at = end + 1;
     }
-    drawing
+    Ok(drawing)
 }
 
 // All lines of a text, each with what it prints.
-pub(crate) fn run(d: Drawing, text: &[u8]) -> Drawing {
-    put(b"#\n");
-    lines(d, text, false)
+pub(crate) fn run(rt: &impl Print, d: Drawing, text: &[u8]) -> io::Result<Drawing> {
+    put(rt, b"#\n")?;
+    lines(rt, d, text, false)
 }
 
 // All lines of a text, each with the row that its reply tells.
-pub(crate) fn run_told(d: Drawing, title: &[u8], text: &[u8]) -> Drawing {
-    put(b"# rows told, ");
-    put(title);
-    put(b"\n");
-    lines(d, text, true)
+pub(crate) fn run_told(
+    rt: &impl Print,
+    d: Drawing,
+    title: &[u8],
+    text: &[u8],
+) -> io::Result<Drawing> {
+    put(rt, b"# rows told, ")?;
+    put(rt, title)?;
+    put(rt, b"\n")?;
+    lines(rt, d, text, true)
 }

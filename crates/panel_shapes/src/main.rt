@@ -1,11 +1,13 @@
 // Prints the bits of shapes: at each of 600 positions a line of checksums over every shape there, and at two of them every shape in full.
 // `stdout` is what the Rust prints.
+#![tactic(auto)]
+
 ghost use Rattle.std.specs.Prelude.{◌<◌};
 
 use cad::Shape;
 use draw::Draw;
 use label::Label;
-use libc::STDOUT_FILENO;
+use std::io;
 
 // A float's bits. A drawn number is no NaN, whose bits nothing tells.
 fn bits(f: f32) -> u32 {
@@ -139,151 +141,140 @@ fn joints_sum(x: u16, y: u16) -> u64 {
 
 // ---- printing
 
-fn print_digit(n: usize)
+fn print_digit(rt: &impl Print, n: usize) -> io::Result<()>
     requires { n < 10 }
 {
-    io::write_all(STDOUT_FILENO, &[b' ', b'0' + n as u8]);
+    print!(rt; " {n}")
 }
 
 // A coordinate: a sign and four digits.
-fn print_coordinate(n: u16)
+fn print_coordinate(rt: &impl Print, n: u16) -> io::Result<()>
     requires { n < 12001 }
 {
-    let mut sign = b'+';
-    let mut m = n;
     if n < 6000 {
-        sign = b'-';
-        m = 6000 - n;
+        let below = 6000 - n;
+        print!(rt; " -{below:04}")
     } else {
-        m = n - 6000;
+        let above = n - 6000;
+        print!(rt; " +{above:04}")
     }
-    let a = b'0' + (m / 1000) as u8;
-    let b = b'0' + (m / 100 % 10) as u8;
-    let c = b'0' + (m / 10 % 10) as u8;
-    let d = b'0' + (m % 10) as u8;
-    io::write_all(STDOUT_FILENO, &[b' ', sign, a, b, c, d]);
 }
 
-fn print_word(n: u64) {
-    io::write_all(STDOUT_FILENO, b" ");
-    io::print_hex(STDOUT_FILENO, n, 8);
+fn print_word(rt: &impl Print, n: u64) -> io::Result<()> {
+    print!(rt; " {n:08x}")
 }
 
-fn print_f32(f: f32) {
-    print_word(bits(f) as u64);
+fn print_f32(rt: &impl Print, f: f32) -> io::Result<()> {
+    print_word(rt, bits(f) as u64)
 }
 
-fn print_shape(s: Shape) {
+fn print_shape(rt: &impl Print, s: Shape) -> io::Result<()> {
     let Shape::Drawn(d) = s else {
-        io::write_all(STDOUT_FILENO, b" N\n");
-        return;
+        return println!(rt; " N");
     };
     match d {
         Draw::Line(p, q, width) => {
-            io::write_all(STDOUT_FILENO, b" L");
-            print_f32(p.x);
-            print_f32(p.y);
-            print_f32(q.x);
-            print_f32(q.y);
-            print_f32(width);
+            print!(rt; " L")?;
+            print_f32(rt, p.x)?;
+            print_f32(rt, p.y)?;
+            print_f32(rt, q.x)?;
+            print_f32(rt, q.y)?;
+            print_f32(rt, width)?;
         }
         Draw::Circle(p, radius, width) => {
-            io::write_all(STDOUT_FILENO, b" C");
-            print_f32(p.x);
-            print_f32(p.y);
-            print_f32(radius);
-            print_f32(width);
+            print!(rt; " C")?;
+            print_f32(rt, p.x)?;
+            print_f32(rt, p.y)?;
+            print_f32(rt, radius)?;
+            print_f32(rt, width)?;
         }
     }
-    io::write_all(STDOUT_FILENO, b"\n");
+    println!(rt; "")
 }
 
-fn print_symbol(kind: u8, n: usize, x: u16, y: u16)
-    requires { (kind < 3) × (n < 256) }
+fn print_symbol(rt: &impl Print, kind: u8, n: usize, x: u16, y: u16) -> io::Result<()>
+    requires kind { kind < 3 }
+    requires shape { n < 256 }
 {
-    io::write_all(STDOUT_FILENO, b"S");
-    print_digit(kind as usize);
-    print_digit(n / 32);
-    print_digit(n / 8 % 4);
-    print_digit(n % 8);
-    print_shape(symbol(kind, n, x, y));
+    print!(rt; "S")?;
+    print_digit(rt, kind as usize)?;
+    print_digit(rt, n / 32)?;
+    print_digit(rt, n / 8 % 4)?;
+    print_digit(rt, n % 8)?;
+    print_shape(rt, symbol(kind, n, x, y))
 }
 
-fn print_symbols(kind: u8, x: u16, y: u16)
+fn print_symbols(rt: &impl Print, kind: u8, x: u16, y: u16) -> io::Result<()>
     requires { kind < 3 }
 {
-    let mut n = 0;
-    while n < 256 {
-        print_symbol(kind, n, x, y);
-        n += 1;
+    for n in 0..256 {
+        print_symbol(rt, kind, n, x, y)?;
     }
+    Ok(())
 }
 
-fn print_wire(n: usize, x: u16, y: u16)
+fn print_wire(rt: &impl Print, n: usize, x: u16, y: u16) -> io::Result<()>
     requires { n < 3 }
 {
-    io::write_all(STDOUT_FILENO, b"W");
-    print_digit(n);
-    print_shape(wire(n, x, y));
+    print!(rt; "W")?;
+    print_digit(rt, n)?;
+    print_shape(rt, wire(n, x, y))
 }
 
-fn print_joint(n: usize, x: u16, y: u16)
+fn print_joint(rt: &impl Print, n: usize, x: u16, y: u16) -> io::Result<()>
     requires { n < 5 }
 {
-    io::write_all(STDOUT_FILENO, b"J");
-    print_digit(n);
-    print_shape(joint(n, x, y));
+    print!(rt; "J")?;
+    print_digit(rt, n)?;
+    print_shape(rt, joint(n, x, y))
 }
 
 // Every shape in full.
-fn print_all(x: u16, y: u16) {
-    print_symbols(0, x, y);
-    print_symbols(1, x, y);
-    print_symbols(2, x, y);
-    print_wire(0, x, y);
-    print_wire(1, x, y);
-    print_wire(2, x, y);
-    print_joint(0, x, y);
-    print_joint(1, x, y);
-    print_joint(2, x, y);
-    print_joint(3, x, y);
-    print_joint(4, x, y);
+fn print_all(rt: &impl Print, x: u16, y: u16) -> io::Result<()> {
+    print_symbols(rt, 0, x, y)?;
+    print_symbols(rt, 1, x, y)?;
+    print_symbols(rt, 2, x, y)?;
+    for n in 0..3 {
+        print_wire(rt, n, x, y)?;
+    }
+    for n in 0..5 {
+        print_joint(rt, n, x, y)?;
+    }
+    Ok(())
 }
 
 // The line of a position.
-fn print_position(x: u16, y: u16)
-    requires { (x < 12001) × (y < 12001) }
+fn print_position(rt: &impl Print, x: u16, y: u16) -> io::Result<()>
+    requires across { x < 12001 }
+    requires down { y < 12001 }
 {
-    io::write_all(STDOUT_FILENO, b"P");
-    print_coordinate(x);
-    print_coordinate(y);
-    print_word(symbols_sum(0, x, y));
-    print_word(symbols_sum(1, x, y));
-    print_word(symbols_sum(2, x, y));
-    print_word(wires_sum(x, y));
-    print_word(joints_sum(x, y));
-    io::write_all(STDOUT_FILENO, b"\n");
+    print!(rt; "P")?;
+    print_coordinate(rt, x)?;
+    print_coordinate(rt, y)?;
+    print_word(rt, symbols_sum(0, x, y))?;
+    print_word(rt, symbols_sum(1, x, y))?;
+    print_word(rt, symbols_sum(2, x, y))?;
+    print_word(rt, wires_sum(x, y))?;
+    print_word(rt, joints_sum(x, y))?;
+    println!(rt; "")
 }
 
 // The lines of position p.
-fn print_at(p: u32)
+fn print_at(rt: &impl Print, p: u32) -> io::Result<()>
     requires { p < 600 }
 {
     let x = across(p);
     let y = down(p);
-    print_position(x, y);
-    if p == 4 {
-        print_all(x, y);
+    print_position(rt, x, y)?;
+    if p == 4 || p == 6 {
+        print_all(rt, x, y)?;
     }
-    if p == 6 {
-        print_all(x, y);
-    }
+    Ok(())
 }
 
-fn main() {
-    let mut p = 0;
-    while p < 600 {
-        print_at(p);
-        p += 1;
+fn main(rt: HostRuntime) -> io::Result<()> {
+    for p in 0..600 {
+        print_at(&rt, p)?;
     }
+    Ok(())
 }

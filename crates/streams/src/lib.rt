@@ -7,7 +7,8 @@ ghost use Rattle.std.specs.Prelude.{length};
 ghost use Rattle.streams.specs.Reads.{Brings, Fills};
 
 pub use output::{Output, tell_block, write_block};
-use std::io::{Read, Write};
+use std::io::{Read, Stderr, Stdin, Stdout, Write};
+use std::process::ExitCode;
 
 // What a program reads from, what it writes to, and where it tells what fails.
 #[derive(Drop)]
@@ -15,6 +16,24 @@ pub struct Streams<R, W, E> {
     pub input: R,
     pub output: W,
     pub errors: E,
+}
+
+// A program's own.
+pub fn standard(rt: &HostRuntime) -> Streams<Stdin, Stdout, Stderr> {
+    Streams {
+        input: rt.stdin(),
+        output: rt.stdout(),
+        errors: rt.stderr(),
+    }
+}
+
+// How a program ends: with status 1 if a read or a write failed.
+pub fn ended(failed: bool) -> ExitCode {
+    if failed {
+        ExitCode::FAILURE
+    } else {
+        ExitCode::SUCCESS
+    }
 }
 
 // What a read brings: so many bytes in front of the lent buffer, or the end of the input.
