@@ -1,4 +1,6 @@
 // A drawing that is given row by row: each row is put into its table, and counts may be told outright. The drawing need not be lawful.
+#![tactic(auto)]
+
 pub mod filled;
 pub mod tables;
 
