@@ -1,9 +1,9 @@
 -- Each answer, by what was found of the numbers.
 use Prim.Native.Nat.{ℕ}
 use Rattle.lists.proofs.Tests.{both}
-use mathlib.Core.Bool.{Bool, true, false, ◌&&◌, not}
+use mathlib.Core.Bool.{Bool, true, false, ◌&&◌}
 use mathlib.Core.Path.{◌≡◌, sym, ◌∙◌}
-use borrow.Author.Tests.{not-true, not-false, eq-eqb, ne_eqb}
+use borrow.Author.Tests.{eq-eqb, ne_eqb}
 use lib.Dec.{eqb}
 use lib.IntN.{ℤ}
 use lib.Signed.{le_z}
@@ -25,13 +25,13 @@ module _ (v : Bool) (l s e : ℤ) {a b c : Found} (p : Tells (ranged 6000 l) (bi
   tested : (a.within && (b.within && c.within)) ≡ (ranged 6000 l && (ranged 6000 s && ranged 6000 e))
   tested = λ i. p.within_is i && (q.within_is i && r.within_is i)
 
-  pub far_wire : not (a.within && (b.within && c.within)) ≡ true → no_wire 1 ≡ asked_wire v l s e
+  pub far_wire : (a.within && (b.within && c.within)) ≡ false → no_wire 1 ≡ asked_wire v l s e
   unfolding asked_wire wire_reply
-  far_wire t = rw (sym tested ∙ not-true _ t)
+  far_wire t = rw (sym tested ∙ t)
 
-  module _ (t : not (a.within && (b.within && c.within)) ≡ false) where
+  module _ (t : (a.within && (b.within && c.within)) ≡ true) where
     near : (ranged 6000 l && (ranged 6000 s && ranged 6000 e)) ≡ true
-    near = sym tested ∙ not-false _ t
+    near = sym tested ∙ t
 
     pub backward_wire : le_z s e ≡ false → no_wire 2 ≡ asked_wire v l s e
     unfolding asked_wire wire_reply
@@ -45,24 +45,24 @@ module _ (v : Bool) (l s e : ℤ) {a b c : Found} (p : Tells (ranged 6000 l) (bi
         rw (near, u) (λ i. record { reply = 0; wire = record { vertical = v; line = p.number x.0 i; start = q.number y.0 i; end = r.number y.1 i } })
 
 module _ (k : ℕ) (o : ℕ) (x y : ℤ) (l : Label) {j : Bool} (w : j ≡ known_symbol k o) where
-  pub unknown_part : not j ≡ true → no_part 4 ≡ asked_part k o x y l
+  pub unknown_part : j ≡ false → no_part 4 ≡ asked_part k o x y l
   unfolding asked_part component_reply symbol_reply point_reply
-  unknown_part t = rw (sym w ∙ not-true _ t)
+  unknown_part t = rw (sym w ∙ t)
 
-  module _ (t : not j ≡ false) {a b : Found} (p : Tells (ranged 5800 x) (biased x) a) (q : Tells (ranged 5800 y) (biased y) b) where
+  module _ (t : j ≡ true) {a b : Found} (p : Tells (ranged 5800 x) (biased x) a) (q : Tells (ranged 5800 y) (biased y) b) where
     sort : known_symbol k o ≡ true
-    sort = sym w ∙ not-false _ t
+    sort = sym w ∙ t
 
     positioned : (a.within && b.within) ≡ (ranged 5800 x && ranged 5800 y)
     positioned = λ i. p.within_is i && q.within_is i
 
-    pub far_part : not (a.within && b.within) ≡ true → no_part 1 ≡ asked_part k o x y l
+    pub far_part : (a.within && b.within) ≡ false → no_part 1 ≡ asked_part k o x y l
     unfolding asked_part component_reply symbol_reply point_reply
-    far_part u = rw (sort, sym positioned ∙ not-true _ u)
+    far_part u = rw (sort, sym positioned ∙ u)
 
-    module _ (u : not (a.within && b.within) ≡ false) {h : Held} (e : h ≡ held_label l) where
+    module _ (u : (a.within && b.within) ≡ true) {h : Held} (e : h ≡ held_label l) where
       at_position : (ranged 5800 x && ranged 5800 y) ≡ true
-      at_position = sym positioned ∙ not-false _ u
+      at_position = sym positioned ∙ u
 
       reply : h.reply ≡ (held_label l).reply
       reply = λ i. (e i).reply
@@ -81,21 +81,21 @@ module _ (x y n : ℤ) {a b c : Found} (p : Tells (ranged 6000 x) (biased x) a) 
   pointed : (a.within && b.within) ≡ (ranged 6000 x && ranged 6000 y)
   pointed = λ i. p.within_is i && q.within_is i
 
-  pub far_pointer : not (a.within && b.within) ≡ true → no_pointer 1 ≡ asked_pointer x y n
+  pub far_pointer : (a.within && b.within) ≡ false → no_pointer 1 ≡ asked_pointer x y n
   unfolding asked_pointer pointer_reply point_reply
-  far_pointer t = rw (sym pointed ∙ not-true _ t)
+  far_pointer t = rw (sym pointed ∙ t)
 
-  module _ (t : not (a.within && b.within) ≡ false) where
+  module _ (t : (a.within && b.within) ≡ true) where
     in_reach : (ranged 6000 x && ranged 6000 y) ≡ true
-    in_reach = sym pointed ∙ not-false _ t
+    in_reach = sym pointed ∙ t
 
-    pub sizeless_pointer : not c.within ≡ true → no_pointer 3 ≡ asked_pointer x y n
+    pub sizeless_pointer : c.within ≡ false → no_pointer 3 ≡ asked_pointer x y n
     unfolding asked_pointer pointer_reply point_reply
-    sizeless_pointer u = rw (in_reach, three n (sym r.within_is ∙ not-true _ u))
+    sizeless_pointer u = rw (in_reach, three n (sym r.within_is ∙ u))
 
-    pub asked_pointer_lem : not c.within ≡ false → ◌≡◌ {A = AskedPointer} (record { reply = 0; point = record { x = a.at; y = b.at }; size = c.at }) (asked_pointer x y n)
+    pub asked_pointer_lem : c.within ≡ true → ◌≡◌ {A = AskedPointer} (record { reply = 0; point = record { x = a.at; y = b.at }; size = c.at }) (asked_pointer x y n)
     unfolding asked_pointer pointer_reply point_reply
     asked_pointer_lem u =
         let s = both (ranged 6000 x) (ranged 6000 y) in_reach in
-        let z : eqb (size_of n).reply 0 ≡ true = sym r.within_is ∙ not-false _ u in
+        let z : eqb (size_of n).reply 0 ≡ true = sym r.within_is ∙ u in
         rw (in_reach, z) (λ i. record { reply = 0; point = record { x = p.number s.0 i; y = q.number s.1 i }; size = r.number z i })

@@ -1,4 +1,6 @@
 // What a caller asks for, as rows hold it, or the first refusal that the numbers alone decide.
+#![tactic(auto)]
+
 ghost use Rattle.std.specs.Prelude.{◌≡◌};
 ghost use Rattle.asked.specs.Asked.{no_wire, asked_wire, no_part, asked_part, no_pointer, asked_pointer};
 ghost use Rattle.asked.specs.Rows.{size_row};
