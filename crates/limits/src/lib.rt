@@ -1,4 +1,6 @@
 // Rule 1: counts are within the rooms, rows beyond the counts are all zero, and each wire and component meets the limits.
+#![tactic(auto)]
+
 ghost use Rattle.std.specs.Prelude.{◌≡◌, ◌≤◌, drop};
 ghost use Rattle.lists.specs.Lists.{all};
 ghost use Rattle.sheet.specs.Drawings.{wire_rows, component_rows};

@@ -1,0 +1,18 @@
+-- The rows passed meet the limits.
+use Rattle.lists.proofs.Tables.{long}
+use Rattle.lists.proofs.Walks.{all_end, all_next, all_stop, rest_start}
+use mathlib.Core.Path.{◌∙◌, sym}
+use native.Mathlib.Omega.{arith}
+use Rattle.limits.proofs.components_fit.Goals as goal
+
+pub loop-i-init : goal.loop-i-init
+loop-i-init c = (omega arith, search long, rest_start _ _ _)
+
+pub returns-then-not-component_fits : goal.returns-then-not-component_fits
+returns-then-not-component_fits c = all_stop _ _ c.loop-i.invariant.2 (sym c.component_fits.ensures ∙ c.if-not-component_fits.true) (omega arith) (omega arith)
+
+pub loop-i-preserved : goal.loop-i-preserved
+loop-i-preserved c = (omega arith, omega arith, all_next _ _ c.loop-i.invariant.2 (sym c.component_fits.ensures ∙ c.if-not-component_fits.false) (omega arith) (omega arith))
+
+pub returns : goal.returns
+returns c = all_end _ c.loop-i.invariant.2 (omega arith) (omega arith)
