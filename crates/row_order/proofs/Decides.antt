@@ -1,8 +1,8 @@
 -- The tests of rules 2 and 7 decide them.
 use Prim.Native.Nat.{◌<◌}
-use mathlib.Core.Bool.{Bool, true, false}
+use mathlib.Core.Bool.{true}
 use mathlib.Core.List.{List}
-use mathlib.Core.Path.{◌≡◌, refl}
+use mathlib.Core.Path.{◌≡◌}
 use mathlib.Core.Logic.{⊎_elim, ◌⊎◌, inl, inr}
 use Rattle.lists.proofs.Tests.{clash, Reads, reads_as, true_reads, not_reads, and_reads, or_reads, eqb_reads, ltb_reads, beq_reads, same_or_turned}
 use Rattle.lists.proofs.Lists.{pairs_reads, links_reads}

@@ -1,4 +1,6 @@
 // Rules 2 and 7: no two wires of one direction share a length of line, and rows strictly rise.
+#![tactic(auto)]
+
 ghost use Rattle.std.specs.Prelude.{◌≡◌, not, ◌≤◌, drop};
 ghost use Rattle.lists.specs.Lists.{all, links};
 ghost use Rattle.sheet.specs.Points.{rises};

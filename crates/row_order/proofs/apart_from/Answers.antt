@@ -1,0 +1,19 @@
+-- The rows passed share no length with the wire.
+use Rattle.lists.proofs.Tables.{long}
+use Rattle.lists.proofs.Walks.{all_end, all_next, all_stop, rest_at}
+use mathlib.Core.Bool.{not}
+use mathlib.Core.Path.{◌∙◌, sym, ap}
+use native.Mathlib.Omega.{arith}
+use Rattle.row_order.proofs.apart_from.Goals as goal
+
+pub loop-j-init : goal.loop-j-init
+loop-j-init c = (search long, rest_at _ _ _ _)
+
+pub returns-then-shares : goal.returns-then-shares
+returns-then-shares c = all_stop _ _ c.loop-j.invariant.1 (ap not (sym c.shares.ensures ∙ c.if-shares.true)) (omega arith) (omega arith)
+
+pub loop-j-preserved : goal.loop-j-preserved
+loop-j-preserved c = (omega arith, all_next _ _ c.loop-j.invariant.1 (ap not (sym c.shares.ensures ∙ c.if-shares.false)) (omega arith) (omega arith))
+
+pub returns : goal.returns
+returns c = all_end _ c.loop-j.invariant.1 (omega arith) (omega arith)
