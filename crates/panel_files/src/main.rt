@@ -1,11 +1,15 @@
 // Reads many files on standard input, each behind two bytes that tell its length, the low one first, and prints of each what panel_open prints.
 // `stdin` and `stdout` are such files, whole and damaged, and what the oracle prints of them: `oracle/target/release/oracle sample files
 // crates/panel_files` makes both again.
+#![tactic(auto)]
+
 ghost use Rattle.std.specs.Prelude.{◌≡◌, ◌+◌, ◌*◌, ◌<◌, length};
 ghost use Rattle.panel_files.specs.Frames.{Answers};
 
 use shown::show;
-use streams::{Output, fill, write_block};
+use std::io::{Read, Write};
+use std::process::ExitCode;
+use streams::{Output, Streams, ended, fill, standard, write_block};
 
 // A file, as far as the input has it: its length, whether the input ended before its end, and whether a read failed.
 #[derive(Clone, Copy)]
@@ -23,12 +27,16 @@ fn length_of(low: u8, high: u8) -> usize
 }
 
 // The next file.
-fn read_frame(head: &mut [u8], held: &mut [u8]) -> Frame
-    requires fact_1 { 2 ≡ length head.old }
-    requires fact_2 { 65536 ≡ length held.old }
+fn read_frame<R: Read, W, E: Write>(
+    streams: &mut Streams<R, W, E>,
+    head: &mut [u8],
+    held: &mut [u8],
+) -> Frame
+    requires pair { 2 ≡ length head.old }
+    requires long { 65536 ≡ length held.old }
     ensures { result.length < 65536 }
 {
-    let h = fill(head);
+    let h = fill(streams, head);
     if h.failed | (h.count < 2) {
         return Frame {
             length: 0,
@@ -37,7 +45,7 @@ fn read_frame(head: &mut [u8], held: &mut [u8]) -> Frame
         };
     }
     let length = length_of(head[0], head[1]);
-    let f = fill(&mut held[..length]);
+    let f = fill(streams, &mut held[..length]);
     Frame {
         length,
         ended: f.count < length,
@@ -47,17 +55,22 @@ fn read_frame(head: &mut [u8], held: &mut [u8]) -> Frame
 
 // What is printed of each file. A proved loop has to end, and nothing says that the input does: it counts the files down, from a number that
 // no input uses up.
-fn answer_all(head: &mut [u8], held: &mut [u8], out: &mut [u8]) -> Output
-    requires fact_1 { 2 ≡ length head.old }
-    requires fact_2 { 65536 ≡ length held.old }
-    requires fact_3 { 65536 ≡ length out.old }
+fn answer_all<R: Read, W: Write, E: Write>(
+    streams: &mut Streams<R, W, E>,
+    head: &mut [u8],
+    held: &mut [u8],
+    out: &mut [u8],
+) -> Output
+    requires pair { 2 ≡ length head.old }
+    requires long { 65536 ≡ length held.old }
+    requires room { 65536 ≡ length out.old }
     ensures { Answers result }
 {
     let mut sum: u32 = 0;
     let mut files = u64::MAX;
     while files > 0 {
         files -= 1;
-        let f = read_frame(head, held);
+        let f = read_frame(streams, head, held);
         if f.failed | f.ended {
             return Output {
                 sum,
@@ -66,7 +79,7 @@ fn answer_all(head: &mut [u8], held: &mut [u8], out: &mut [u8]) -> Output
         }
         let n = f.length;
         let k = show(&held[..n], out);
-        let o = write_block(sum, &out[..k]);
+        let o = write_block(streams, sum, &out[..k]);
         sum = o.sum;
         if o.failed {
             return o;
@@ -75,9 +88,11 @@ fn answer_all(head: &mut [u8], held: &mut [u8], out: &mut [u8]) -> Output
     Output { sum, failed: false }
 }
 
-fn main() {
+fn main(rt: HostRuntime) -> ExitCode {
+    let mut streams = standard(&rt);
     let mut head = [0u8; 2];
-    let mut held = io::large_buffer();
-    let mut out = io::large_buffer();
-    answer_all(&mut head, &mut held, &mut out);
+    let mut held = [0u8; 65536];
+    let mut out = [0u8; 65536];
+    let o = answer_all(&mut streams, &mut head, &mut held, &mut out);
+    ended(o.failed)
 }

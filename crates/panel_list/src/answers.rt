@@ -25,8 +25,8 @@ pub struct Taken {
 
 // What a line prints, behind the bytes used.
 fn print(drawing: Drawing, line: &[u8], out: &mut [u8], used: usize) -> Answered
-    requires fact_1 { Lawful drawing }
-    requires fact_2 { used + 8192 ≤ length out.old }
+    requires lawful { Lawful drawing }
+    requires room { used + 8192 ≤ length out.old }
     ensures { Prints drawing line.now used out.old result out.new }
 {
     let s = step_on(drawing, line, NO_TALLY, &mut out[used..]);
@@ -45,10 +45,10 @@ pub(crate) fn take_lines(
     begun: usize,
     out: &mut [u8],
 ) -> Taken
-    requires fact_1 { Lawful d }
-    requires fact_2 { 81 ≤ length held.old }
-    requires fact_3 { begun ≤ 81 }
-    requires fact_4 { 8192 ≤ length out.old }
+    requires lawful { Lawful d }
+    requires long { 81 ≤ length held.old }
+    requires few { begun ≤ 81 }
+    requires room { 8192 ≤ length out.old }
     ensures { Takes d chunk.now held.old begun result held.new out.new }
 {
     let mut drawing = d;

@@ -1,6 +1,8 @@
 // Reads a panel script on standard input and prints its answers: document 01, "panel_list".
 // `stdin` and `stdout` are a script, which begins with docs/examples/drop-point.txt, and what the Rust prints for it:
 // `oracle/target/release/oracle sample list crates/panel_list` makes both again.
+#![tactic(auto)]
+
 mod answers;
 
 ghost use Rattle.std.specs.Prelude.{◌≡◌, ◌≤◌, length};
@@ -10,8 +12,10 @@ ghost use Rattle.panel_list.specs.Printing.{Done, Read, Finished, Printed, after
 use answers::take_lines;
 use empty::empty_drawing;
 use sheet::Drawing;
+use std::io::{Read, Write};
+use std::process::ExitCode;
 use step::{NO_TALLY, step_on};
-use streams::{Got, Output, read_chunk, write_block};
+use streams::{Got, Output, Streams, ended, read_chunk, standard, write_block};
 
 // How far the script is: the drawing, how many bytes of a line that goes on are held, the sum of all that was handed over, and whether a
 // read or a write failed.
@@ -24,7 +28,8 @@ pub struct Run {
 }
 
 // All the lines that end in a chunk. What they print is handed over whenever the room for it may not do for the next line.
-fn answer(
+fn answer<R, W: Write, E: Write>(
+    streams: &mut Streams<R, W, E>,
     d: Drawing,
     chunk: &[u8],
     held: &mut [u8],
@@ -32,10 +37,10 @@ fn answer(
     before: u32,
     out: &mut [u8],
 ) -> Run
-    requires fact_1 { Lawful d }
-    requires fact_2 { 81 ≤ length held.old }
-    requires fact_3 { begun ≤ 81 }
-    requires fact_4 { 8192 ≤ length out.old }
+    requires lawful { Lawful d }
+    requires long { 81 ≤ length held.old }
+    requires few { begun ≤ 81 }
+    requires room { 8192 ≤ length out.old }
     ensures { Done d begun before chunk.now held.old result held.new }
 {
     let mut drawing = d;
@@ -46,7 +51,7 @@ fn answer(
         let t = take_lines(drawing, &chunk[at..], held, count, out);
         at += t.at;
         let used = t.used;
-        let o = write_block(sum, &out[..used]);
+        let o = write_block(streams, sum, &out[..used]);
         drawing = t.drawing;
         count = t.count;
         sum = o.sum;
@@ -68,10 +73,15 @@ fn answer(
 }
 
 // A last line without a newline, if it is not empty. After a failure nothing is done.
-fn finish(run: Run, held: &[u8], out: &mut [u8]) -> Output
-    requires fact_1 { Lawful run.drawing }
-    requires fact_2 { run.count ≤ length held.now }
-    requires fact_3 { 8192 ≤ length out.old }
+fn finish<R, W: Write, E: Write>(
+    streams: &mut Streams<R, W, E>,
+    run: Run,
+    held: &[u8],
+    out: &mut [u8],
+) -> Output
+    requires lawful { Lawful run.drawing }
+    requires within { run.count ≤ length held.now }
+    requires room { 8192 ≤ length out.old }
     ensures { Finished run held.now result }
 {
     if run.failed {
@@ -85,7 +95,7 @@ fn finish(run: Run, held: &[u8], out: &mut [u8]) -> Output
         let d = run.drawing;
         let s = step_on(d, &held[..count], NO_TALLY, out);
         let used = s.length;
-        return write_block(run.sum, &out[..used]);
+        return write_block(streams, run.sum, &out[..used]);
     }
     Output {
         sum: run.sum,
@@ -108,9 +118,14 @@ fn failed(run: Run) -> Run
 
 // The lines of all that is read. A proved loop has to end, and nothing says that the input does: it counts its reads down, from a
 // number that no input uses up.
-fn read_lines(chunk: &mut [u8], held: &mut [u8], out: &mut [u8]) -> Run
-    requires fact_1 { 81 ≤ length held.old }
-    requires fact_2 { 8192 ≤ length out.old }
+fn read_lines<R: Read, W: Write, E: Write>(
+    streams: &mut Streams<R, W, E>,
+    chunk: &mut [u8],
+    held: &mut [u8],
+    out: &mut [u8],
+) -> Run
+    requires long { 81 ≤ length held.old }
+    requires room { 8192 ≤ length out.old }
     ensures { Read result held.new }
 {
     let d = empty_drawing();
@@ -123,10 +138,10 @@ fn read_lines(chunk: &mut [u8], held: &mut [u8], out: &mut [u8]) -> Run
     let mut reads = u64::MAX;
     while reads > 0 {
         reads -= 1;
-        match read_chunk(chunk) {
+        match read_chunk(streams, chunk) {
             Got::Bytes(n) => {
                 let drawing = run.drawing;
-                run = answer(drawing, &chunk[..n], held, run.count, run.sum, out);
+                run = answer(streams, drawing, &chunk[..n], held, run.count, run.sum, out);
                 if run.failed {
                     return run;
                 }
@@ -143,18 +158,25 @@ fn read_lines(chunk: &mut [u8], held: &mut [u8], out: &mut [u8]) -> Run
 }
 
 // All that is read, and a last line without a newline.
-fn answer_all(chunk: &mut [u8], held: &mut [u8], out: &mut [u8]) -> Output
-    requires fact_1 { 81 ≤ length held.old }
-    requires fact_2 { 8192 ≤ length out.old }
+fn answer_all<R: Read, W: Write, E: Write>(
+    streams: &mut Streams<R, W, E>,
+    chunk: &mut [u8],
+    held: &mut [u8],
+    out: &mut [u8],
+) -> Output
+    requires long { 81 ≤ length held.old }
+    requires room { 8192 ≤ length out.old }
     ensures { Printed result }
 {
-    let r = read_lines(chunk, held, out);
-    finish(r, held, out)
+    let r = read_lines(streams, chunk, held, out);
+    finish(streams, r, held, out)
 }
 
-fn main() {
-    let mut chunk = io::large_buffer();
+fn main(rt: HostRuntime) -> ExitCode {
+    let mut streams = standard(&rt);
+    let mut chunk = [0u8; 65536];
     let mut held = [0u8; 81];
-    let mut out = io::large_buffer();
-    answer_all(&mut chunk, &mut held, &mut out);
+    let mut out = [0u8; 65536];
+    let o = answer_all(&mut streams, &mut chunk, &mut held, &mut out);
+    ended(o.failed)
 }

@@ -1,5 +1,7 @@
 // Reads a panel script on standard input and prints, behind each answer, the tally and all rows of the drawing. `stdin` and `stdout`
 // are a script and what the Rust prints for it: `oracle/target/release/oracle sample rows crates/panel_rows` makes both again.
+#![tactic(auto)]
+
 mod rows;
 
 ghost use Rattle.std.specs.Prelude.{◌≡◌, ◌≤◌, length};
@@ -11,7 +13,9 @@ use empty::empty_drawing;
 use lines::{Cut, next_line};
 use rows::rows_step;
 use sheet::Drawing;
-use streams::{Got, read_chunk, write_block};
+use std::io::{Read, Write};
+use std::process::ExitCode;
+use streams::{Got, Streams, ended, read_chunk, standard, write_block};
 
 // The drawing after a line, and whether what it printed was taken.
 #[derive(Clone, Copy)]
@@ -29,14 +33,19 @@ pub struct Run {
 }
 
 // A line, written as soon as it is done.
-fn answer(drawing: Drawing, line: &[u8], out: &mut [u8]) -> Answered
-    requires fact_1 { Lawful drawing }
-    requires fact_2 { 61488 ≤ length out.old }
+fn answer<R, W: Write, E: Write>(
+    streams: &mut Streams<R, W, E>,
+    drawing: Drawing,
+    line: &[u8],
+    out: &mut [u8],
+) -> Answered
+    requires lawful { Lawful drawing }
+    requires room { 61488 ≤ length out.old }
     ensures { (result.drawing ≡ redrawn drawing line.now) × Lawful result.drawing }
 {
     let s = rows_step(drawing, line, out);
     let used = s.length;
-    let o = write_block(0, &out[..used]);
+    let o = write_block(streams, 0, &out[..used]);
     let d = s.drawing;
     Answered {
         drawing: d,
@@ -45,17 +54,18 @@ fn answer(drawing: Drawing, line: &[u8], out: &mut [u8]) -> Answered
 }
 
 // All the lines that end in a chunk.
-fn answer_chunk(
+fn answer_chunk<R, W: Write, E: Write>(
+    streams: &mut Streams<R, W, E>,
     drawing: Drawing,
     chunk: &[u8],
     held: &mut [u8],
     begun: usize,
     out: &mut [u8],
 ) -> Run
-    requires fact_1 { Lawful drawing }
-    requires fact_2 { 81 ≤ length held.old }
-    requires fact_3 { begun ≤ 81 }
-    requires fact_4 { 61488 ≤ length out.old }
+    requires lawful { Lawful drawing }
+    requires long { 81 ≤ length held.old }
+    requires few { begun ≤ 81 }
+    requires room { 61488 ≤ length out.old }
     ensures { Done drawing chunk.now held.old begun result held.new }
 {
     let mut d = drawing;
@@ -64,7 +74,7 @@ fn answer_chunk(
     while at < chunk.len() {
         match next_line(chunk, at, held, count) {
             Cut::Line { count: n, next } => {
-                let a = answer(d, &held[..n], out);
+                let a = answer(streams, d, &held[..n], out);
                 d = a.drawing;
                 if !a.taken {
                     return Run {
@@ -92,51 +102,65 @@ fn answer_chunk(
     }
 }
 
-// A last line without a newline, if it is not empty.
-fn finish(drawing: Drawing, held: &[u8], count: usize, out: &mut [u8])
-    requires fact_1 { Lawful drawing }
-    requires fact_2 { count ≤ length held.now }
-    requires fact_3 { 61488 ≤ length out.old }
+// A last line without a newline, if it is not empty; and whether a write failed.
+fn finish<R, W: Write, E: Write>(
+    streams: &mut Streams<R, W, E>,
+    drawing: Drawing,
+    held: &[u8],
+    count: usize,
+    out: &mut [u8],
+) -> bool
+    requires lawful { Lawful drawing }
+    requires within { count ≤ length held.now }
+    requires room { 61488 ≤ length out.old }
 {
     if count > 0 {
-        answer(drawing, &held[..count], out);
+        let a = answer(streams, drawing, &held[..count], out);
+        return !a.taken;
     }
+    false
 }
 
-// All that is read, up to the end of the input or a failure. A proved loop has to end, and nothing says that the input does: it counts
+// All that is read, up to the end of the input or a failure; and whether there was one. A proved loop has to end, and nothing says that the input does: it counts
 // its reads down, from a number that no input uses up.
-fn answer_all(chunk: &mut [u8], held: &mut [u8], out: &mut [u8])
-    requires fact_1 { 81 ≤ length held.old }
-    requires fact_2 { 61488 ≤ length out.old }
+fn answer_all<R: Read, W: Write, E: Write>(
+    streams: &mut Streams<R, W, E>,
+    chunk: &mut [u8],
+    held: &mut [u8],
+    out: &mut [u8],
+) -> bool
+    requires long { 81 ≤ length held.old }
+    requires room { 61488 ≤ length out.old }
 {
     let mut d = empty_drawing();
     let mut count = 0;
     let mut reads = u64::MAX;
     while reads > 0 {
         reads -= 1;
-        match read_chunk(chunk) {
+        match read_chunk(streams, chunk) {
             Got::Bytes(n) => {
-                let r = answer_chunk(d, &chunk[..n], held, count, out);
+                let r = answer_chunk(streams, d, &chunk[..n], held, count, out);
                 if r.failed {
-                    return;
+                    return true;
                 }
                 d = r.drawing;
                 count = r.count;
             }
             Got::End => {
-                finish(d, held, count, out);
-                return;
+                return finish(streams, d, held, count, out);
             }
             Got::Failed => {
-                return;
+                return true;
             }
         }
     }
+    false
 }
 
-fn main() {
-    let mut chunk = io::large_buffer();
+fn main(rt: HostRuntime) -> ExitCode {
+    let mut streams = standard(&rt);
+    let mut chunk = [0u8; 65536];
     let mut held = [0u8; 81];
-    let mut out = io::large_buffer();
-    answer_all(&mut chunk, &mut held, &mut out);
+    let mut out = [0u8; 65536];
+    ended(answer_all(&mut streams, &mut chunk, &mut held, &mut out))
 }

@@ -21,8 +21,8 @@ pub struct Printed {
 
 // What stands behind an answer.
 fn put_behind(out: &mut [u8], at: usize, list: bool, d: Drawing) -> usize
-    requires fact_1 { Lawful d }
-    requires fact_2 { Space at 53296 }
+    requires lawful { Lawful d }
+    requires space { Space at 53296 }
     ensures { Puts 53296 out.old at (behind list d) out.new result }
 {
     if list {
@@ -35,8 +35,8 @@ fn put_behind(out: &mut [u8], at: usize, list: bool, d: Drawing) -> usize
 
 // What a line does and prints: 61,488 bytes always suffice, 8,192 for the answer and 53,296 for the rows.
 pub(crate) fn rows_step(d: Drawing, line: &[u8], out: &mut [u8]) -> Printed
-    requires fact_1 { 61488 ≤ length out.old }
-    requires fact_2 { Lawful d }
+    requires room { 61488 ≤ length out.old }
+    requires lawful { Lawful d }
     ensures { PrintsRows d line.now out.old out.new result }
 {
     let list = asks_list(read_line(line));

@@ -7,8 +7,9 @@ ghost use Rattle.panel_save.specs.Saving.{next_line, refusal_of};
 ghost use Rattle.panel_save.specs.Taking.{Takes};
 
 use sheet::Drawing;
+use std::io::Write;
 use step::{NO_TALLY, step_on};
-use streams::tell_block;
+use streams::{Streams, tell_block};
 use text::{put_byte, put_bytes, put_decimal};
 
 // How far the script is: the drawing, the number of the last line, and the sum of what was told on standard error.
@@ -42,7 +43,7 @@ fn put_refusal(text: &mut [u8], n: u32, reply: u8) -> usize
 }
 
 // A line that is not answered with 0 is told on standard error: the sum with it.
-fn tell_refusal(n: u32, reply: u8, told: u32) -> u32
+fn tell_refusal<R, W, E: Write>(streams: &mut Streams<R, W, E>, n: u32, reply: u8, told: u32) -> u32
     ensures { result ≡ sum_of told (refusal_of n reply) }
 {
     if reply == 0 {
@@ -50,21 +51,26 @@ fn tell_refusal(n: u32, reply: u8, told: u32) -> u32
     }
     let mut text = [0u8; 40];
     let used = put_refusal(&mut text, n, reply);
-    tell_block(told, &text[..used])
+    tell_block(streams, told, &text[..used])
 }
 
 // A line more, told as soon as it is taken. What it prints in the lent buffer is left there: 8,192 bytes hold all of it, so that no reply
 // is for want of room.
-pub(crate) fn save_line(s: State, line: &[u8], out: &mut [u8]) -> State
-    requires fact_1 { Lawful s.drawing }
-    requires fact_2 { 8192 ≤ length out.old }
+pub(crate) fn save_line<R, W, E: Write>(
+    streams: &mut Streams<R, W, E>,
+    s: State,
+    line: &[u8],
+    out: &mut [u8],
+) -> State
+    requires lawful { Lawful s.drawing }
+    requires room { 8192 ≤ length out.old }
     ensures { Takes s line.now result }
 {
     let d = s.drawing;
     let before = s.line;
     let number = next_line_number(before);
     let a = step_on(d, line, NO_TALLY, out);
-    let told = tell_refusal(number, a.reply, s.told);
+    let told = tell_refusal(streams, number, a.reply, s.told);
     let drawing = a.drawing;
     State {
         drawing,

@@ -1,6 +1,8 @@
 // Reads a panel script on standard input and writes the file of the drawing at its end (docs/FORMAT.md). Each line that is not answered
 // with 0 is told on standard error. `stdin` and `stdout` are a script and its file: `oracle/target/release/oracle sample save
 // crates/panel_save` makes both again.
+#![tactic(auto)]
+
 mod lines_taken;
 
 ghost use Rattle.std.specs.Prelude.{◌≡◌, ◌≤◌, length};
@@ -13,7 +15,9 @@ use lines::{Cut, next_line};
 use lines_taken::{State, save_line};
 use save::save_on;
 use sheet::Drawing;
-use streams::{Got, read_chunk, write_block};
+use std::io::{Read, Write};
+use std::process::ExitCode;
+use streams::{Got, Streams, ended, read_chunk, standard, write_block};
 
 // The sums of all that was handed to standard output and to standard error, and whether a read or a write failed.
 #[derive(Clone, Copy)]
@@ -32,11 +36,17 @@ pub struct Run {
 }
 
 // All the lines that end in a chunk.
-fn take_chunk(run: Run, chunk: &[u8], held: &mut [u8], out: &mut [u8]) -> Run
-    requires fact_1 { Lawful run.state.drawing }
-    requires fact_2 { 81 ≤ length held.old }
-    requires fact_3 { run.count ≤ 81 }
-    requires fact_4 { 8192 ≤ length out.old }
+fn take_chunk<R, W, E: Write>(
+    streams: &mut Streams<R, W, E>,
+    run: Run,
+    chunk: &[u8],
+    held: &mut [u8],
+    out: &mut [u8],
+) -> Run
+    requires lawful { Lawful run.state.drawing }
+    requires long { 81 ≤ length held.old }
+    requires few { run.count ≤ 81 }
+    requires room { 8192 ≤ length out.old }
     ensures { TakesChunk run chunk.now held.old result held.new }
 {
     let mut state = run.state;
@@ -45,7 +55,7 @@ fn take_chunk(run: Run, chunk: &[u8], held: &mut [u8], out: &mut [u8]) -> Run
     while at < chunk.len() {
         match next_line(chunk, at, held, count) {
             Cut::Line { count: n, next } => {
-                state = save_line(state, &held[..n], out);
+                state = save_line(streams, state, &held[..n], out);
                 count = 0;
                 at = next;
             }
@@ -79,9 +89,14 @@ fn failed(run: Run) -> Run
 
 // The lines of all that is read. A proved loop has to end, and nothing says that the input does: it counts its reads down, from a
 // number that no input uses up.
-fn read_lines(chunk: &mut [u8], held: &mut [u8], out: &mut [u8]) -> Run
-    requires fact_1 { 81 ≤ length held.old }
-    requires fact_2 { 8192 ≤ length out.old }
+fn read_lines<R: Read, W: Write, E: Write>(
+    streams: &mut Streams<R, W, E>,
+    chunk: &mut [u8],
+    held: &mut [u8],
+    out: &mut [u8],
+) -> Run
+    requires long { 81 ≤ length held.old }
+    requires room { 8192 ≤ length out.old }
     ensures { Read result held.new }
 {
     let drawing = empty_drawing();
@@ -98,9 +113,9 @@ fn read_lines(chunk: &mut [u8], held: &mut [u8], out: &mut [u8]) -> Run
     let mut reads = u64::MAX;
     while reads > 0 {
         reads -= 1;
-        match read_chunk(chunk) {
+        match read_chunk(streams, chunk) {
             Got::Bytes(n) => {
-                run = take_chunk(run, &chunk[..n], held, out);
+                run = take_chunk(streams, run, &chunk[..n], held, out);
             }
             Got::End => {
                 return run;
@@ -114,27 +129,38 @@ fn read_lines(chunk: &mut [u8], held: &mut [u8], out: &mut [u8]) -> Run
 }
 
 // A last line without a newline, if it is not empty.
-fn last_line(state: State, held: &[u8], count: usize, out: &mut [u8]) -> State
-    requires fact_1 { Lawful state.drawing }
-    requires fact_2 { count ≤ length held.now }
-    requires fact_3 { 8192 ≤ length out.old }
+fn last_line<R, W, E: Write>(
+    streams: &mut Streams<R, W, E>,
+    state: State,
+    held: &[u8],
+    count: usize,
+    out: &mut [u8],
+) -> State
+    requires lawful { Lawful state.drawing }
+    requires within { count ≤ length held.now }
+    requires room { 8192 ≤ length out.old }
     ensures { TakesLast state count held.now result }
 {
     if count > 0 {
-        return save_line(state, &held[..count], out);
+        return save_line(streams, state, &held[..count], out);
     }
     state
 }
 
 // The file of a drawing, handed to standard output.
-fn write_file(d: Drawing, told: u32, out: &mut [u8]) -> Done
-    requires fact_1 { Lawful d }
-    requires fact_2 { 8192 ≤ length out.old }
+fn write_file<R, W: Write, E: Write>(
+    streams: &mut Streams<R, W, E>,
+    d: Drawing,
+    told: u32,
+    out: &mut [u8],
+) -> Done
+    requires lawful { Lawful d }
+    requires room { 8192 ≤ length out.old }
     ensures { WritesFile d told result }
 {
     let w = save_on(d, out);
     let used = w.length;
-    let o = write_block(0, &out[..used]);
+    let o = write_block(streams, 0, &out[..used]);
     Done {
         sum: o.sum,
         told,
@@ -143,10 +169,15 @@ fn write_file(d: Drawing, told: u32, out: &mut [u8]) -> Done
 }
 
 // The end of the input: the last line and the file. After a failure nothing is done.
-fn finish(run: Run, held: &[u8], out: &mut [u8]) -> Done
-    requires fact_1 { Lawful run.state.drawing }
-    requires fact_2 { run.count ≤ length held.now }
-    requires fact_3 { 8192 ≤ length out.old }
+fn finish<R, W: Write, E: Write>(
+    streams: &mut Streams<R, W, E>,
+    run: Run,
+    held: &[u8],
+    out: &mut [u8],
+) -> Done
+    requires lawful { Lawful run.state.drawing }
+    requires within { run.count ≤ length held.now }
+    requires room { 8192 ≤ length out.old }
     ensures { Finished run held.now result }
 {
     let state = run.state;
@@ -157,24 +188,31 @@ fn finish(run: Run, held: &[u8], out: &mut [u8]) -> Done
             failed: true,
         };
     }
-    let last = last_line(state, held, run.count, out);
+    let last = last_line(streams, state, held, run.count, out);
     let d = last.drawing;
-    write_file(d, last.told, out)
+    write_file(streams, d, last.told, out)
 }
 
 // All that is read, and the file of the drawing at its end.
-fn save_all(chunk: &mut [u8], held: &mut [u8], out: &mut [u8]) -> Done
-    requires fact_1 { 81 ≤ length held.old }
-    requires fact_2 { 8192 ≤ length out.old }
+fn save_all<R: Read, W: Write, E: Write>(
+    streams: &mut Streams<R, W, E>,
+    chunk: &mut [u8],
+    held: &mut [u8],
+    out: &mut [u8],
+) -> Done
+    requires long { 81 ≤ length held.old }
+    requires room { 8192 ≤ length out.old }
     ensures { Saves result }
 {
-    let r = read_lines(chunk, held, out);
-    finish(r, held, out)
+    let r = read_lines(streams, chunk, held, out);
+    finish(streams, r, held, out)
 }
 
-fn main() {
-    let mut chunk = io::large_buffer();
+fn main(rt: HostRuntime) -> ExitCode {
+    let mut streams = standard(&rt);
+    let mut chunk = [0u8; 65536];
     let mut held = [0u8; 81];
-    let mut out = io::large_buffer();
-    save_all(&mut chunk, &mut held, &mut out);
+    let mut out = [0u8; 65536];
+    let o = save_all(&mut streams, &mut chunk, &mut held, &mut out);
+    ended(o.failed)
 }
