@@ -1,4 +1,6 @@
 // A new wire among the others: those that it meets go, its run comes in, cut at each joint that still stands on the wire as drawn.
+#![tactic(auto)]
+
 mod before;
 mod cut;
 mod marks;

@@ -1,4 +1,6 @@
 // Wires in line become one where nothing holds them apart.
+#![tactic(auto)]
+
 mod codes;
 mod held;
 

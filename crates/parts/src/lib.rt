@@ -1,4 +1,6 @@
 // Tables of components by value: each function does to the rows in use what its definition says of lists.
+#![tactic(auto)]
+
 pub mod insert;
 pub mod pads;
 pub mod square;
