@@ -20,9 +20,9 @@ use wires::{Grown, Points, no_wires};
 
 // The rows before the run, the run and the rows behind it, each cut at the marks.
 fn laid(t: Wires, run: Wire, n: Wire, pads: Points) -> Grown
-    requires count_bound { (t.count ≤ 512) × ((pads.count ≤ 384) × (n.end ≤ 12000)) }
-    requires vertical_value { (run.vertical ≡ n.vertical) × (run.line ≡ n.line) }
-    requires fact { (w : Wire) → w ∈ wire_rows t → Meets n w → ⊥ }
+    requires rooms { (t.count ≤ 512) × ((pads.count ≤ 384) × (n.end ≤ 12000)) }
+    requires same_line { (run.vertical ≡ n.vertical) × (run.line ≡ n.line) }
+    requires unmet { (w : Wire) → w ∈ wire_rows t → Meets n w → ⊥ }
     ensures { Grows (Run.lay n run (wire_rows t) (point_rows pads)) result }
 {
     let p = before::rows_before(t, run);

@@ -9,7 +9,7 @@ returns-then-rest c = rest_over _ _ _ c.rest_of-rest.ensures c.if-rest.true
 
 pub laid-requires : goal.laid-requires
 laid-requires c = let o = when_room c.rest_of-rest.ensures c.if-rest.false in
-    ((holds_count o, (c.requires.1.0, c.requires.1.1)), (edit_line _ _ c.run_of-run.ensures, edit_free _ _ (holds_list o)))
+    record { rooms = (holds_count o, (c.requires.1.0, c.requires.1.1)); same_line = edit_line _ _ c.run_of-run.ensures; unmet = edit_free _ _ (holds_list o) }
 
 pub returns : goal.returns
 returns c = laid_edit _ _ _ c.run_of-run.ensures (holds_list (when_room c.rest_of-rest.ensures c.if-rest.false)) c.laid.ensures
