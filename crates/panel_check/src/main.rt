@@ -1,4 +1,6 @@
 // Reads drawings on standard input, a row to a line, each ended by a line `.`, and prints what the drawing check answers to each.
+#![tactic(auto)]
+
 mod answers;
 
 ghost use Rattle.std.specs.Prelude.{◌≡◌, ◌≤◌, length, take};
@@ -12,7 +14,9 @@ use lawful::check;
 use lines::Cut;
 use sheet::Drawing;
 use sketch::{Sketch, add, empty};
-use streams::{Got, read_chunk, write_block};
+use std::io::{Read, Write};
+use std::process::ExitCode;
+use streams::{Got, Streams, ended, read_chunk, standard, write_block};
 
 // How far the input is read: the drawing that has begun, if a line of it was read; the number of the last line, and whether it was
 // unreadable; how many bytes of answers wait; and whether a read or a write failed.
@@ -49,9 +53,9 @@ pub struct Room {
 
 // Room for an answer. Answers wait for the end of the input, as an unreadable line is told alone; where some thousands wait, they are
 // written.
-fn make_room(out: &[u8], used: usize) -> Room
-    requires fact_1 { used ≤ 65536 }
-    requires fact_2 { length out.now ≡ 65536 }
+fn make_room<R, W: Write, E: Write>(streams: &mut Streams<R, W, E>, out: &[u8], used: usize) -> Room
+    requires waiting { used ≤ 65536 }
+    requires room { length out.now ≡ 65536 }
     ensures { result.at ≡ kept_of used }
 {
     if used <= 65500 {
@@ -60,7 +64,7 @@ fn make_room(out: &[u8], used: usize) -> Room
             failed: false,
         };
     }
-    let o = write_block(0, &out[..used]);
+    let o = write_block(streams, 0, &out[..used]);
     Room {
         at: 0,
         failed: o.failed,
@@ -68,12 +72,17 @@ fn make_room(out: &[u8], used: usize) -> Room
 }
 
 // The answer to a drawing, behind those that wait.
-fn answer(d: Drawing, used: usize, out: &mut [u8]) -> Waiting
-    requires fact_1 { used ≤ 65536 }
-    requires fact_2 { length out.old ≡ 65536 }
+fn answer<R, W: Write, E: Write>(
+    streams: &mut Streams<R, W, E>,
+    d: Drawing,
+    used: usize,
+    out: &mut [u8],
+) -> Waiting
+    requires waiting { used ≤ 65536 }
+    requires room { length out.old ≡ 65536 }
     ensures { Appended d used out.old result.used out.new }
 {
-    let room = make_room(out, used);
+    let room = make_room(streams, out, used);
     let k = check(d);
     let n = put_checked(out, room.at, k.rule, k.first, k.second);
     Waiting {
@@ -83,9 +92,14 @@ fn answer(d: Drawing, used: usize, out: &mut [u8]) -> Waiting
 }
 
 // One line. Two wrong answers that this rules out: a line `.` that is not counted, and a drawing with rows of the one before.
-fn take_line(r: State, line: &[u8], out: &mut [u8]) -> State
-    requires fact_1 { r.used ≤ 65536 }
-    requires fact_2 { length out.old ≡ 65536 }
+fn take_line<R, W: Write, E: Write>(
+    streams: &mut Streams<R, W, E>,
+    r: State,
+    line: &[u8],
+    out: &mut [u8],
+) -> State
+    requires waiting { r.used ≤ 65536 }
+    requires room { length out.old ≡ 65536 }
     ensures { Takes r line.now out.old result out.new }
 {
     if r.stopped {
@@ -96,7 +110,7 @@ fn take_line(r: State, line: &[u8], out: &mut [u8]) -> State
     let s = r.sketch;
     if is_end(said) {
         let d = s.drawing;
-        let w = answer(d, r.used, out);
+        let w = answer(streams, d, r.used, out);
         let fresh = empty();
         return State {
             sketch: fresh,
@@ -120,11 +134,18 @@ fn take_line(r: State, line: &[u8], out: &mut [u8]) -> State
 }
 
 // All the lines that end in a chunk; after a failed write no more of them.
-fn take_chunk(run: State, chunk: &[u8], held: &mut [u8], begun: usize, out: &mut [u8]) -> Carried
-    requires fact_1 { run.used ≤ 65536 }
-    requires fact_2 { 81 ≤ length held.old }
-    requires fact_3 { begun ≤ 81 }
-    requires fact_4 { length out.old ≡ 65536 }
+fn take_chunk<R, W: Write, E: Write>(
+    streams: &mut Streams<R, W, E>,
+    run: State,
+    chunk: &[u8],
+    held: &mut [u8],
+    begun: usize,
+    out: &mut [u8],
+) -> Carried
+    requires waiting { run.used ≤ 65536 }
+    requires long { 81 ≤ length held.old }
+    requires few { begun ≤ 81 }
+    requires room { length out.old ≡ 65536 }
     ensures { Done run chunk.now held.old begun out.old result held.new out.new }
 {
     let mut r = run;
@@ -133,7 +154,7 @@ fn take_chunk(run: State, chunk: &[u8], held: &mut [u8], begun: usize, out: &mut
     while at < chunk.len() {
         match lines::next_line(chunk, at, held, count) {
             Cut::Line { count: n, next } => {
-                r = take_line(r, &held[..n], out);
+                r = take_line(streams, r, &held[..n], out);
                 if r.failed {
                     return Carried { run: r, count: 0 };
                 }
@@ -149,9 +170,9 @@ fn take_chunk(run: State, chunk: &[u8], held: &mut [u8], begun: usize, out: &mut
 }
 
 // The end of the input: a drawing that has begun is answered, or the unreadable line told alone. What waits then is left to write.
-fn tell(r: State, out: &mut [u8]) -> Waiting
-    requires fact_1 { r.used ≤ 65536 }
-    requires fact_2 { length out.old ≡ 65536 }
+fn tell<R, W: Write, E: Write>(streams: &mut Streams<R, W, E>, r: State, out: &mut [u8]) -> Waiting
+    requires waiting { r.used ≤ 65536 }
+    requires room { length out.old ≡ 65536 }
     ensures { Concludes (λ written. told_so_far r written out.old) result.used out.new }
 {
     if r.stopped {
@@ -164,7 +185,7 @@ fn tell(r: State, out: &mut [u8]) -> Waiting
     if r.begun {
         let s = r.sketch;
         let d = s.drawing;
-        return answer(d, r.used, out);
+        return answer(streams, d, r.used, out);
     }
     Waiting {
         used: r.used,
@@ -174,21 +195,27 @@ fn tell(r: State, out: &mut [u8]) -> Waiting
 
 // A last line without a newline, if it is not empty, and then the end. Where that line's write fails, it ended a drawing, and `tell` writes
 // nothing more.
-fn finish(r: State, held: &[u8], count: usize, out: &mut [u8]) -> Waiting
-    requires fact_1 { r.used ≤ 65536 }
-    requires fact_2 { count ≤ length held.now }
-    requires fact_3 { length out.old ≡ 65536 }
+fn finish<R, W: Write, E: Write>(
+    streams: &mut Streams<R, W, E>,
+    r: State,
+    held: &[u8],
+    count: usize,
+    out: &mut [u8],
+) -> Waiting
+    requires waiting { r.used ≤ 65536 }
+    requires within { count ≤ length held.now }
+    requires room { length out.old ≡ 65536 }
     ensures { Concludes (λ written. finish told_after (ran (told_so_far r written out.old) (take count held.now))) result.used out.new }
 {
     if count > 0 {
-        let last = take_line(r, &held[..count], out);
-        let w = tell(last, out);
+        let last = take_line(streams, r, &held[..count], out);
+        let w = tell(streams, last, out);
         return Waiting {
             used: w.used,
             failed: last.failed | w.failed,
         };
     }
-    tell(r, out)
+    tell(streams, r, out)
 }
 
 // The state after a read that failed.
@@ -208,9 +235,14 @@ fn failed(r: State) -> State
 
 // The lines of all that is read. A proved loop has to end, and nothing says that the input does: it counts its reads down, from a
 // number that no input uses up.
-fn read_lines(chunk: &mut [u8], held: &mut [u8], out: &mut [u8]) -> Carried
-    requires fact_1 { 81 ≤ length held.old }
-    requires fact_2 { length out.old ≡ 65536 }
+fn read_lines<R: Read, W: Write, E: Write>(
+    streams: &mut Streams<R, W, E>,
+    chunk: &mut [u8],
+    held: &mut [u8],
+    out: &mut [u8],
+) -> Carried
+    requires long { 81 ≤ length held.old }
+    requires room { length out.old ≡ 65536 }
     ensures { Read result held.new out.new }
 {
     let mut r = State {
@@ -225,9 +257,9 @@ fn read_lines(chunk: &mut [u8], held: &mut [u8], out: &mut [u8]) -> Carried
     let mut reads = u64::MAX;
     while reads > 0 {
         reads -= 1;
-        match read_chunk(chunk) {
+        match read_chunk(streams, chunk) {
             Got::Bytes(n) => {
-                let t = take_chunk(r, &chunk[..n], held, count, out);
+                let t = take_chunk(streams, r, &chunk[..n], held, count, out);
                 r = t.run;
                 count = t.count;
                 if r.failed {
@@ -247,12 +279,17 @@ fn read_lines(chunk: &mut [u8], held: &mut [u8], out: &mut [u8]) -> Carried
 }
 
 // All that is read, and the answers that are left to write. After a failure none is.
-fn run(chunk: &mut [u8], held: &mut [u8], out: &mut [u8]) -> Waiting
-    requires fact_1 { 81 ≤ length held.old }
-    requires fact_2 { length out.old ≡ 65536 }
+fn run<R: Read, W: Write, E: Write>(
+    streams: &mut Streams<R, W, E>,
+    chunk: &mut [u8],
+    held: &mut [u8],
+    out: &mut [u8],
+) -> Waiting
+    requires long { 81 ≤ length held.old }
+    requires room { length out.old ≡ 65536 }
     ensures { Printed result out.new }
 {
-    let t = read_lines(chunk, held, out);
+    let t = read_lines(streams, chunk, held, out);
     let r = t.run;
     if r.failed {
         return Waiting {
@@ -260,16 +297,19 @@ fn run(chunk: &mut [u8], held: &mut [u8], out: &mut [u8]) -> Waiting
             failed: true,
         };
     }
-    finish(r, held, t.count, out)
+    finish(streams, r, held, t.count, out)
 }
 
-fn main() {
-    let mut chunk = io::large_buffer();
+fn main(rt: HostRuntime) -> ExitCode {
+    let mut streams = standard(&rt);
+    let mut chunk = [0u8; 65536];
     let mut held = [0u8; 81];
-    let mut out = io::large_buffer();
-    let w = run(&mut chunk, &mut held, &mut out);
-    if !w.failed {
-        let used = w.used;
-        write_block(0, &out[..used]);
+    let mut out = [0u8; 65536];
+    let w = run(&mut streams, &mut chunk, &mut held, &mut out);
+    if w.failed {
+        return ended(true);
     }
+    let used = w.used;
+    let o = write_block(&mut streams, 0, &out[..used]);
+    ended(o.failed)
 }
