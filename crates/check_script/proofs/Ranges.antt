@@ -109,3 +109,13 @@ in_16 n h = record { fits = omega arith }
 
 pub in_8 : (n : ℕ) → n ≤ 255 → Fits w8 n
 in_8 n h = record { fits = omega arith }
+
+-- ---- a number above 255
+
+above : (k high : ℕ) (z : ℤ) → k ≤ high → lt_z (pos high) z ≡ true → lt_z (pos k) z ≡ true
+above k high (pos n) le h = let g = ltb-true high n h in lt-ltb k n (omega arith)
+above k high (negsuc n) le h = h
+
+pub above_byte : {high : ℕ} (s : List ℕ) {t : List ℕ} {z : ℤ} → 255 ≤ high → lt_z (pos high) (to_z w32 (of_z w32 z)) ≡ true → mag z < 2 ^ 31 → found z t ≡ field_of s
+    → missing ≡ fitted_field 0 255 to_ℕ s
+above_byte {high} s {t} {z} le h m e = held_high 0 255 to_ℕ s (sym e) m (above 255 high _ le h)

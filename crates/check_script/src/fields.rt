@@ -60,6 +60,7 @@ pub fn natural_at(line: &[u8], at: usize) -> Natural
 }
 
 // A space and a number of 8 bits.
+#[tactic(auto, using(crate::proofs::Ranges::above_byte))]
 pub fn byte_at(line: &[u8], at: usize) -> Byte
     ensures { byte_found line.now result ≡ byte_of (drop at line.now) }
 {
