@@ -15,8 +15,8 @@ use text::put_byte;
 // The tally, each wire, joint and component: 53,294 bytes always suffice. Two wrong answers that this rules out: a wire's end told before its
 // start (start_and_end_swapped), and an empty label without its space (label_without_space).
 pub fn put_row_lines(out: &mut [u8], at: usize, t: Tally, d: Drawing) -> usize
-    requires fact_1 { Lawful d }
-    requires fact_2 { Space at 53294 }
+    requires lawful { Lawful d }
+    requires space { Space at 53294 }
     ensures { Puts 53294 out.old at (row_lines t d) out.new result }
 {
     let ws = d.wires;
@@ -30,8 +30,8 @@ pub fn put_row_lines(out: &mut [u8], at: usize, t: Tally, d: Drawing) -> usize
 
 // The same, and the line that ends them.
 pub fn put_rows(out: &mut [u8], at: usize, t: Tally, d: Drawing) -> usize
-    requires fact_1 { Lawful d }
-    requires fact_2 { Space at 53296 }
+    requires lawful { Lawful d }
+    requires space { Space at 53296 }
     ensures { Puts 53296 out.old at (rows_of t d) out.new result }
 {
     let p = put_row_lines(out, at, t, d);

@@ -9,8 +9,8 @@ use sheet::{Components, Joints, Wires};
 
 // 22 bytes for each of 512.
 pub(crate) fn put_wires(out: &mut [u8], at: usize, ws: Wires) -> usize
-    requires fact_1 { ws.count ≤ 512 }
-    requires fact_2 { Space at 11264 }
+    requires few { ws.count ≤ 512 }
+    requires space { Space at 11264 }
     ensures { Puts 11264 out.old at (gather wire_line (wire_rows ws)) out.new result }
 {
     let count = ws.count;
@@ -26,8 +26,8 @@ pub(crate) fn put_wires(out: &mut [u8], at: usize, ws: Wires) -> usize
 
 // 25 bytes for each of 1,408.
 pub(crate) fn put_joints(out: &mut [u8], at: usize, js: Joints) -> usize
-    requires fact_1 { js.count ≤ 1408 }
-    requires fact_2 { Space at 35200 }
+    requires few { js.count ≤ 1408 }
+    requires space { Space at 35200 }
     ensures { Puts 35200 out.old at (gather joint_line (joint_rows js)) out.new result }
 {
     let count = js.count;
@@ -43,8 +43,8 @@ pub(crate) fn put_joints(out: &mut [u8], at: usize, js: Joints) -> usize
 
 // 53 bytes for each of 128.
 pub(crate) fn put_components(out: &mut [u8], at: usize, cs: Components) -> usize
-    requires fact_1 { cs.count ≤ 128 }
-    requires fact_2 { Space at 6784 }
+    requires few { cs.count ≤ 128 }
+    requires space { Space at 6784 }
     ensures { Puts 6784 out.old at (gather component_line (component_rows cs)) out.new result }
 {
     let count = cs.count;

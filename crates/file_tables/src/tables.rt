@@ -28,8 +28,8 @@ pub struct PartsRead {
 
 // n wires of a direction, behind those of the table.
 pub(crate) fn read_wires(bytes: &[u8], at: usize, n: usize, vertical: bool, t: Wires) -> WiresRead
-    requires fact_1 { Tabled (wire_rows t) t }
-    requires fact_2 { (at ≤ length bytes.now) × (t.count + n ≤ 512) }
+    requires tabled { Tabled (wire_rows t) t }
+    requires within { (at ≤ length bytes.now) × (t.count + n ≤ 512) }
     ensures { ReadAs (times (take_wire vertical) n (drop at bytes.now)) bytes.now result.reply result.next (Added t n result.wires) }
 {
     let mut out = t;

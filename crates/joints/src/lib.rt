@@ -1,4 +1,6 @@
 // The joints of a drawing, counted from its wire ends and pads: each point as one number, sorted, and equal ones gathered.
+#![tactic(auto)]
+
 pub mod keys;
 mod rows;
 pub mod sort;

@@ -16,8 +16,8 @@ use text::Written;
 
 // The whole list, of which what fits is written: the coils, then the contacts.
 fn put_list(out: &mut [u8], cs: Components, numbers: [u16; 384]) -> usize
-    requires fact_1 { cs.count ≤ 128 }
-    requires fact_2 { Room 0 (list_with (nth numbers) (map entry (component_rows cs))) }
+    requires few { cs.count ≤ 128 }
+    requires room { Room 0 (list_with (nth numbers) (map entry (component_rows cs))) }
     ensures { Put out.old 0 (list_with (nth numbers) (map entry (component_rows cs))) out.new result }
 {
     let p = put_lines(out, 0, cs, numbers, 2);
@@ -27,8 +27,8 @@ fn put_list(out: &mut [u8], cs: Components, numbers: [u16; 384]) -> usize
 // The list in front of the lent buffer, if the buffer has room for it, by the net numbers of the drawing's pads. A first run over a byte of
 // our own tells the length. Not one list for every drawing (one_fixed_list).
 pub fn write_list_by(d: Drawing, numbers: [u16; 384], out: &mut [u8]) -> Written
-    requires fact_1 { Lawful d }
-    requires fact_2 { numbers ≡ pad 384 0 (net_numbers (lists_of d)) }
+    requires lawful { Lawful d }
+    requires numbered { numbers ≡ pad 384 0 (net_numbers (lists_of d)) }
     ensures told { result ≡ answer_of (list_of (lists_of d)) (length out.old) }
     ensures written { out.new ≡ buffer_of (list_of (lists_of d)) out.old }
 {

@@ -82,8 +82,8 @@ pub(crate) fn put_lines(
     numbers: [u16; 384],
     kind: u8,
 ) -> usize
-    requires fact_1 { cs.count ≤ 128 }
-    requires fact_2 { Room at (kind_lines (nth numbers) kind 0 (map entry (component_rows cs))) }
+    requires few { cs.count ≤ 128 }
+    requires room { Room at (kind_lines (nth numbers) kind 0 (map entry (component_rows cs))) }
     ensures { Put out.old at (kind_lines (nth numbers) kind 0 (map entry (component_rows cs))) out.new result }
 {
     let count = cs.count;

@@ -65,8 +65,8 @@ fn loose_part(kind: u8, n: bool, a: bool, b: bool) -> u32
 
 // The loose pads of all components, where their pads have these net numbers.
 fn count_in(cs: Components, numbers: [u16; 384]) -> u32
-    requires fact_1 { cs.count ≤ 128 }
-    requires fact_2 { Low numbers }
+    requires few { cs.count ≤ 128 }
+    requires low { Low numbers }
     ensures { result ≡ length (loose_pads (kinds_of (component_rows cs)) numbers) }
 {
     let table = occurrences(numbers);
@@ -88,8 +88,8 @@ fn count_in(cs: Components, numbers: [u16; 384]) -> u32
 
 // The number of loose pads of a drawing whose pads have these net numbers.
 pub fn count_loose(d: Drawing, numbers: [u16; 384]) -> u32
-    requires fact_1 { Lawful d }
-    requires fact_2 { numbers ≡ pad 384 0 (net_numbers (lists_of d)) }
+    requires lawful { Lawful d }
+    requires numbered { numbers ≡ pad 384 0 (net_numbers (lists_of d)) }
     ensures { result ≡ loose_of (lists_of d) }
 {
     let cs = d.components;

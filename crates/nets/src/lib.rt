@@ -38,9 +38,9 @@ fn root(alias: &[u16; 1409], n: u16) -> u16
 
 // A wire from u to v: the larger of the two roots gets the smaller one as its alias.
 fn join(alias: &mut [u16; 1409], u: u16, v: u16)
-    requires fact_1 { Falling alias.old }
-    requires fact_2 { JointNumber u }
-    requires fact_3 { JointNumber v }
+    requires falling { Falling alias.old }
+    requires joint_u { JointNumber u }
+    requires joint_v { JointNumber v }
     ensures { alias.new ≡ join_of alias.old u v }
 {
     let x = root(alias, u);
@@ -82,8 +82,8 @@ fn start(powers: Pads) -> [u16; 1409]
 
 // The aliases after all the wires.
 fn aliases(wires: Links, powers: Pads) -> [u16; 1409]
-    requires fact_1 { LinksFit wires }
-    requires fact_2 { PadsFit powers }
+    requires links_fit { LinksFit wires }
+    requires powers_fit { PadsFit powers }
     ensures { Rooted (net_in wires powers) result }
 {
     let mut alias = start(powers);
@@ -113,8 +113,8 @@ fn flatten(alias: [u16; 1409]) -> [u16; 1409]
 
 // The net of each joint, 0 for the fed ones.
 pub fn nets(wires: Links, powers: Pads) -> [u16; 1409]
-    requires fact_1 { LinksFit wires }
-    requires fact_2 { PadsFit powers }
+    requires links_fit { LinksFit wires }
+    requires powers_fit { PadsFit powers }
     ensures { result ≡ tabulate (net_of (net_in wires powers)) 1409 }
 {
     flatten(aliases(wires, powers))
@@ -122,8 +122,8 @@ pub fn nets(wires: Links, powers: Pads) -> [u16; 1409]
 
 // A net is met: a new one gets the next rank. The number of nets met, and `given` has the rank of each.
 fn meet(given: &mut [u16; 1409], count: u16, net: u16) -> u16
-    requires fact_1 { net < 1409 }
-    requires fact_2 { count < 1409 }
+    requires net_low { net < 1409 }
+    requires count_low { count < 1409 }
     ensures { (met : List ℕ) → Ranked met count given.old → Ranked (Numbers.meet net met) result given.new }
 {
     if given[net as usize] == 0 {
@@ -135,8 +135,8 @@ fn meet(given: &mut [u16; 1409], count: u16, net: u16) -> u16
 
 // The numbers of the pads' nets in the order in which these are met, 0 for net 0; and zeros behind them.
 fn number(nets: [u16; 1409], pads: Pads) -> [u16; 384]
-    requires fact_1 { Falling nets }
-    requires fact_2 { PadsFit pads }
+    requires falling { Falling nets }
+    requires pads_fit { PadsFit pads }
     ensures { result ≡ pad 384 0 (numbering (map (λ n. get_or nets n 0) (pad_rows pads))) }
 {
     let mut out = [0u16; 384];
@@ -155,9 +155,9 @@ fn number(nets: [u16; 1409], pads: Pads) -> [u16; 384]
 
 // The net numbers of the pads of a drawing.
 pub fn pad_nets(wires: Links, powers: Pads, pads: Pads) -> [u16; 384]
-    requires fact_1 { LinksFit wires }
-    requires fact_2 { PadsFit powers }
-    requires fact_3 { PadsFit pads }
+    requires links_fit { LinksFit wires }
+    requires powers_fit { PadsFit powers }
+    requires pads_fit { PadsFit pads }
     ensures { result ≡ pad 384 0 (numbers_of (net_in wires powers) (pad_rows pads)) }
 {
     number(nets(wires, powers), pads)

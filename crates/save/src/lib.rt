@@ -18,8 +18,8 @@ use text::Written;
 
 // The wires of a direction, with their number before them.
 fn put_direction(out: &mut [u8], at: usize, ws: Wires, vertical: bool) -> usize
-    requires fact_1 { ws.count ≤ 512 }
-    requires fact_2 { Room at (listed wire_bytes (directed vertical (wire_rows ws))) }
+    requires few { ws.count ≤ 512 }
+    requires room { Room at (listed wire_bytes (directed vertical (wire_rows ws))) }
     ensures { Put out.old at (listed wire_bytes (directed vertical (wire_rows ws))) out.new result }
 {
     let p = put_number(out, at, count_wires(ws, vertical));
@@ -28,8 +28,8 @@ fn put_direction(out: &mut [u8], at: usize, ws: Wires, vertical: bool) -> usize
 
 // The components, with their number before them.
 fn put_parts(out: &mut [u8], at: usize, cs: Components) -> usize
-    requires fact_1 { cs.count ≤ 128 }
-    requires fact_2 { Room at (listed part_bytes (component_rows cs)) }
+    requires few { cs.count ≤ 128 }
+    requires room { Room at (listed part_bytes (component_rows cs)) }
     ensures { Put out.old at (listed part_bytes (component_rows cs)) out.new result }
 {
     let n = cs.count;
@@ -39,8 +39,8 @@ fn put_parts(out: &mut [u8], at: usize, cs: Components) -> usize
 
 // The whole file, of which what fits is written.
 fn put_file(out: &mut [u8], d: Drawing) -> usize
-    requires fact_1 { (d.wires.count ≤ 512) × (d.components.count ≤ 128) }
-    requires fact_2 { Room 0 (file_of (lists_of d)) }
+    requires few { (d.wires.count ≤ 512) × (d.components.count ≤ 128) }
+    requires room { Room 0 (file_of (lists_of d)) }
     ensures { Put out.old 0 (file_of (lists_of d)) out.new result }
 {
     let ws = d.wires;

@@ -52,8 +52,8 @@ pub(crate) fn count_wires(ws: Wires, vertical: bool) -> u32
 
 // The wires of the direction.
 pub(crate) fn put_wires(out: &mut [u8], at: usize, ws: Wires, vertical: bool) -> usize
-    requires fact_1 { ws.count ≤ 512 }
-    requires fact_2 { Room at (gather wire_bytes (directed vertical (wire_rows ws))) }
+    requires few { ws.count ≤ 512 }
+    requires room { Room at (gather wire_bytes (directed vertical (wire_rows ws))) }
     ensures { Put out.old at (gather wire_bytes (directed vertical (wire_rows ws))) out.new result }
 {
     let n = ws.count;
@@ -92,8 +92,8 @@ fn put_component(out: &mut [u8], at: usize, c: Component) -> usize
 
 // All components.
 pub(crate) fn put_components(out: &mut [u8], at: usize, cs: Components) -> usize
-    requires fact_1 { cs.count ≤ 128 }
-    requires fact_2 { Room at (gather part_bytes (component_rows cs)) }
+    requires few { cs.count ≤ 128 }
+    requires room { Room at (gather part_bytes (component_rows cs)) }
     ensures { Put out.old at (gather part_bytes (component_rows cs)) out.new result }
 {
     let n = cs.count;

@@ -14,8 +14,8 @@ use telling::{put_numbered, tell};
 
 // The rows, the list and `E <loose>`, behind the first `at` bytes of a buffer.
 fn show_drawing(d: Drawing, out: &mut [u8], at: usize) -> usize
-    requires fact_1 { Lawful d }
-    requires fact_2 { (at ≤ 40) × (65536 ≡ length out.old) }
+    requires lawful { Lawful d }
+    requires room { (at ≤ 40) × (65536 ≡ length out.old) }
     ensures { Shows out.old at (drawing_shown d) out.new result }
 {
     let t = tally(d);

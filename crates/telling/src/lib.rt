@@ -52,9 +52,9 @@ fn put_counted(line: &mut [u8], reply: u8, hit: u32, lost: u32) -> usize
 
 // The bytes of a line behind the first `at` of a buffer, if they fit there, and the index behind them; or nothing, and `at`.
 fn put_fitting(out: &mut [u8], at: usize, line: &[u8]) -> usize
-    requires fact_1 { at ≤ 7936 }
-    requires fact_2 { at ≤ length out.old }
-    requires fact_3 { length line.now ≤ 40 }
+    requires at_low { at ≤ 7936 }
+    requires at_within { at ≤ length out.old }
+    requires line_short { length line.now ≤ 40 }
     ensures { Fitted out.old at line.now out.new result }
 {
     if line.len() <= out.len() - at {
