@@ -13,16 +13,16 @@ use Rattle.nets.proofs.Rooted.{rooted_start, rooted_next}
 use Rattle.nets.proofs.aliases.Goals as goal
 
 pub start-alias-requires : goal.start-alias-requires
-start-alias-requires c = c.requires.fact_2
+start-alias-requires c = c.requires.powers_fit
 
 pub loop-k-init : goal.loop-k-init
 loop-k-init c = (omega arith, λ ps e. subst (Rooted (net_with ps [])) (sym e) (rooted_start ps))
 
 pub offset_bounds-wires-k : goal.offset_bounds-wires-k
-offset_bounds-wires-k c = omega (arith, c.requires.fact_1.room)
+offset_bounds-wires-k c = omega (arith, c.requires.links_fit.room)
 
 pub bounds-wires-k : goal.bounds-wires-k
-bounds-wires-k c = omega (arith, c.requires.fact_1.room)
+bounds-wires-k c = omega (arith, c.requires.links_fit.room)
 
 -- the ends of the wire that the pass is at
 joints : (w : Links) → length w.rows ≡ 512 → LinksFit w → (k : ℕ) → k < w.count → JointNumber (get_or w.rows k (record { from = 0; to = 0 })).from × JointNumber (get_or w.rows k (record { from = 0; to = 0 })).to
@@ -32,22 +32,22 @@ pub join-requires : goal.join-requires
 join-requires c =
     let l = c.loop-k in
     record {
-      fact_1 = (l.invariant.1 (pad_rows c.args.powers) c.start-alias.ensures).falls;
-      fact_2 = (joints c.args.wires (search long) c.requires.fact_1 l.k c.loop-k-test.true).0;
-      fact_3 = (joints c.args.wires (search long) c.requires.fact_1 l.k c.loop-k-test.true).1;
+      falling = (l.invariant.1 (pad_rows c.args.powers) c.start-alias.ensures).falls;
+      joint_u = (joints c.args.wires (search long) c.requires.links_fit l.k c.loop-k-test.true).0;
+      joint_v = (joints c.args.wires (search long) c.requires.links_fit l.k c.loop-k-test.true).1;
     }
 
 pub overflow_add-k : goal.overflow_add-k
-overflow_add-k c = omega (arith, c.requires.fact_1.room)
+overflow_add-k c = omega (arith, c.requires.links_fit.room)
 
 pub loop-k-preserved : goal.loop-k-preserved
 loop-k-preserved c =
     let l = c.loop-k in
     let lt = c.loop-k-test.true in
     let w = get_or c.args.wires.rows l.k (record { from = 0; to = 0 }) in
-    let j = joints c.args.wires (search long) c.requires.fact_1 l.k lt in (
+    let j = joints c.args.wires (search long) c.requires.links_fit l.k lt in (
       omega arith,
-      λ ps e. rw (wire_next c.args.wires (search long) c.requires.fact_1 l.k lt (record { from = 0; to = 0 }), c.join.ensures) (rooted_next w.from w.to j.0.high j.1.high (l.invariant.1 ps e)),
+      λ ps e. rw (wire_next c.args.wires (search long) c.requires.links_fit l.k lt (record { from = 0; to = 0 }), c.join.ensures) (rooted_next w.from w.to j.0.high j.1.high (l.invariant.1 ps e)),
     )
 
 pub returns : goal.returns

@@ -5,11 +5,11 @@ use Rattle.nets.proofs.join.Goals as goal
 
 pub bounds-alias-y : goal.bounds-alias-y
 bounds-alias-y c =
-    omega (arith, c.root-y.ensures, root_low c.args.alias.now c.requires.fact_1 c.args.v, c.requires.fact_3.high)
+    omega (arith, c.root-y.ensures, root_low c.args.alias.now c.requires.falling c.args.v, c.requires.joint_v.high)
 
 pub bounds-alias-x : goal.bounds-alias-x
 bounds-alias-x c =
-    omega (arith, c.root-x.ensures, root_low c.args.alias.now c.requires.fact_1 c.args.u, c.requires.fact_2.high)
+    omega (arith, c.root-x.ensures, root_low c.args.alias.now c.requires.falling c.args.u, c.requires.joint_u.high)
 
 pub returns-then-x-y : goal.returns-then-x-y
 returns-then-x-y c =

@@ -26,60 +26,60 @@ module _ (nets : List ℕ) (falls : Falling nets) (pads : Pads) (long : length p
   at-net = omega (arith, falls.low (get_or pads.rows i 0), at-joint.high)
 
 pub offset_bounds-pads-i : goal.offset_bounds-pads-i
-offset_bounds-pads-i c = omega (arith, c.requires.fact_2.room)
+offset_bounds-pads-i c = omega (arith, c.requires.pads_fit.room)
 
 pub bounds-pads-i : goal.bounds-pads-i
-bounds-pads-i c = omega (arith, c.requires.fact_2.room)
+bounds-pads-i c = omega (arith, c.requires.pads_fit.room)
 
 pub overflow_cast-net : goal.overflow_cast-net
-overflow_cast-net c = omega (arith, (at-joint c.args.nets c.requires.fact_1 c.args.pads (search rules) c.requires.fact_2 c.loop-i.i c.loop-i-test.true).high)
+overflow_cast-net c = omega (arith, (at-joint c.args.nets c.requires.falling c.args.pads (search rules) c.requires.pads_fit c.loop-i.i c.loop-i-test.true).high)
 
 pub offset_bounds-nets-n : goal.offset_bounds-nets-n
-offset_bounds-nets-n c = omega (arith, (at-joint c.args.nets c.requires.fact_1 c.args.pads (search rules) c.requires.fact_2 c.loop-i.i c.loop-i-test.true).high)
+offset_bounds-nets-n c = omega (arith, (at-joint c.args.nets c.requires.falling c.args.pads (search rules) c.requires.pads_fit c.loop-i.i c.loop-i-test.true).high)
 
 pub bounds-nets-n : goal.bounds-nets-n
-bounds-nets-n c = (at-joint c.args.nets c.requires.fact_1 c.args.pads (search rules) c.requires.fact_2 c.loop-i.i c.loop-i-test.true).high
+bounds-nets-n c = (at-joint c.args.nets c.requires.falling c.args.pads (search rules) c.requires.pads_fit c.loop-i.i c.loop-i-test.true).high
 
 pub meet-count-requires-in-loop-i : goal.meet-count-requires-in-loop-i
 meet-count-requires-in-loop-i c = record {
-  fact_1 = at-net c.args.nets c.requires.fact_1 c.args.pads (search rules) c.requires.fact_2 c.loop-i.i c.loop-i-test.true;
-  fact_2 = omega (arith, c.requires.fact_2.room, c.loop-i.invariant.1.few);
+  net_low = at-net c.args.nets c.requires.falling c.args.pads (search rules) c.requires.pads_fit c.loop-i.i c.loop-i-test.true;
+  count_low = omega (arith, c.requires.pads_fit.room, c.loop-i.invariant.1.few);
 }
 
 pub overflow_cast-out : goal.overflow_cast-out
-overflow_cast-out c = omega (arith, at-net c.args.nets c.requires.fact_1 c.args.pads (search rules) c.requires.fact_2 c.loop-i.i c.loop-i-test.true)
+overflow_cast-out c = omega (arith, at-net c.args.nets c.requires.falling c.args.pads (search rules) c.requires.pads_fit c.loop-i.i c.loop-i-test.true)
 
 pub offset_bounds-given-net : goal.offset_bounds-given-net
-offset_bounds-given-net c = omega (arith, at-net c.args.nets c.requires.fact_1 c.args.pads (search rules) c.requires.fact_2 c.loop-i.i c.loop-i-test.true)
+offset_bounds-given-net c = omega (arith, at-net c.args.nets c.requires.falling c.args.pads (search rules) c.requires.pads_fit c.loop-i.i c.loop-i-test.true)
 
 pub bounds-given-net : goal.bounds-given-net
-bounds-given-net c = at-net c.args.nets c.requires.fact_1 c.args.pads (search rules) c.requires.fact_2 c.loop-i.i c.loop-i-test.true
+bounds-given-net c = at-net c.args.nets c.requires.falling c.args.pads (search rules) c.requires.pads_fit c.loop-i.i c.loop-i-test.true
 
 pub overflow_sub-out : goal.overflow_sub-out
 overflow_sub-out c =
     let l = c.loop-i in
     let m = c.meet-count-in-loop-i in
-    let net = at-net c.args.nets c.requires.fact_1 c.args.pads (search rules) c.requires.fact_2 l.i c.loop-i-test.true in
+    let net = at-net c.args.nets c.requires.falling c.args.pads (search rules) c.requires.pads_fit l.i c.loop-i-test.true in
     passed_rank _ l.count l.given l.out l.i l.invariant.1 _ net m.result m.new.given (m.ensures _ l.invariant.1.ranked)
 
 pub offset_bounds-out-i : goal.offset_bounds-out-i
-offset_bounds-out-i c = omega (arith, c.requires.fact_2.room)
+offset_bounds-out-i c = omega (arith, c.requires.pads_fit.room)
 
 pub bounds-out-i : goal.bounds-out-i
-bounds-out-i c = omega (arith, c.requires.fact_2.room)
+bounds-out-i c = omega (arith, c.requires.pads_fit.room)
 
 pub overflow_add-i : goal.overflow_add-i
-overflow_add-i c = omega (arith, c.requires.fact_2.room)
+overflow_add-i c = omega (arith, c.requires.pads_fit.room)
 
 pub loop-i-preserved : goal.loop-i-preserved
 loop-i-preserved c =
     let l = c.loop-i in
     let m = c.meet-count-in-loop-i in
     let a = c.args in
-    let net = at-net a.nets c.requires.fact_1 a.pads (search rules) c.requires.fact_2 l.i c.loop-i-test.true in
-    let room : l.i < 384 = omega (arith, c.requires.fact_2.room) in
+    let net = at-net a.nets c.requires.falling a.pads (search rules) c.requires.pads_fit l.i c.loop-i-test.true in
+    let room : l.i < 384 = omega (arith, c.requires.pads_fit.room) in
     let next = passed_next _ l.count l.given l.out l.i l.invariant.1 _ net m.result m.new.given (m.ensures _ l.invariant.1.ranked) room in
-    (omega arith, rw (pads_next a.pads (search rules) c.requires.fact_2 l.i c.loop-i-test.true (λ n. get_or a.nets n 0)) next)
+    (omega arith, rw (pads_next a.pads (search rules) c.requires.pads_fit l.i c.loop-i-test.true (λ n. get_or a.nets n 0)) next)
 
 pub returns : goal.returns
 unfolding pad_rows

@@ -15,8 +15,8 @@ use Rattle.nets.proofs.pad_nets.Goals as goal
 pub number-requires : goal.number-requires
 number-requires c =
     record {
-      fact_1 = subst Falling (sym c.nets.ensures) (tabulate_falls _ 1409 (net_low (net_in c.args.wires c.args.powers)));
-      fact_2 = c.requires.fact_3;
+      falling = subst Falling (sym c.nets.ensures) (tabulate_falls _ 1409 (net_low (net_in c.args.wires c.args.powers)));
+      pads_fit = c.requires.pads_fit;
     }
 
 pub returns : goal.returns
@@ -25,4 +25,4 @@ returns c =
     let net : Net ℕ = net_in c.args.wires c.args.powers in
     c.number.ensures
     ∙ ap (λ (t : List ℕ). pad 384 0 (numbering (map (λ n. get_or t n 0) (pad_rows c.args.pads)))) c.nets.ensures
-    ∙ ap (λ (xs : List ℕ). pad 384 0 (numbering xs)) (map_as (pad_rows c.args.pads) (λ n i. tabulate_at (net_of net) 1409 n (c.requires.fact_3.joints n i).high))
+    ∙ ap (λ (xs : List ℕ). pad 384 0 (numbering xs)) (map_as (pad_rows c.args.pads) (λ n i. tabulate_at (net_of net) 1409 n (c.requires.pads_fit.joints n i).high))

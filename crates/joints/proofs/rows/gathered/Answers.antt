@@ -7,6 +7,7 @@ use lib.ListN.{length}
 use Rattle.lists.proofs.Tables.{long}
 use Rattle.joints.proofs.Gathering.{gather_start, gather_same, gather_next, gather_end, gather_none}
 use Rattle.joints.proofs.rows.gathered.Goals as goal
+use Rattle.joints.proofs.rows.gathered.Goals.{then-k-last, else-k-last}
 
 pub returns-then-n-eq0 : goal.returns-then-n-eq0
 returns-then-n-eq0 c = gather_none c.args.ks.rows c.no_joints-out.ensures c.if-n-eq0.true
@@ -22,10 +23,10 @@ pub loop-i-preserved : goal.loop-i-preserved
 loop-i-preserved c =
     let g = c.loop-i.invariant.2 in
     let test = c.loop-i-test.true in
-    ⊎_elim
-    (λ w. (omega arith, omega arith, rw (w.1, w.2, w.3) (gather_same g w.0.taken test (omega arith))))
-    (λ w. (omega arith, omega arith, rw (w.2, w.3, w.4, w.1.ensures) (gather_next g w.0.left test (omega arith) (omega arith))))
-    c.if-k-last.branch
+    elim c.if-k-last.branch [
+      | then-k-last w ↦ (omega arith, omega arith, rw (w.out-is, w.last-is, w.count-is) (gather_same g w.if-k-last.true test (omega arith)))
+      | else-k-last w ↦ (omega arith, omega arith, rw (w.out-is, w.last-is, w.count-is, w.joint_at.ensures) (gather_next g w.if-k-last.false test (omega arith) (omega arith)))
+    ]
 
 pub returns : goal.returns
 returns c = rw c.joint_at-2.ensures (gather_end c.loop-i.invariant.2 (omega arith) (omega arith) (omega arith))
