@@ -1,7 +1,7 @@
 -- The wire edit in one go: the rows before the run, the run and the rows behind it, each cut at the standing joints, are the edit.
-use Prim.Native.Nat.{ℕ, ◌+◌, ◌-◌, ◌≤◌, ◌<◌}
+use Prim.Native.Nat.{ℕ, ◌+◌, ◌-◌, ◌≤◌}
 use native.Mathlib.Omega.{arith}
-use mathlib.Core.Path.{◌≡◌, refl, sym, ap, ◌∙◌, subst}
+use mathlib.Core.Path.{◌≡◌, sym, ap, ◌∙◌, subst}
 use mathlib.Core.List.{List, [], ◌∷◌, ◌++◌, append-nil, append_assoc}
 use mathlib.Core.Bool.{Bool, true, false, not}
 use lib.Dec.{eqb}
@@ -16,7 +16,7 @@ use Rattle.lists.proofs.Passes.{gather_as, gather_gather, gather_each}
 use Rattle.lists.proofs.Insert.{insert_at, insert_place, span_le}
 use Rattle.lists.proofs.Finding.{in_take, in_drop}
 use Rattle.sheet.specs.declared.Wire.{Wire}
-use Rattle.sheet.specs.Geometry.{along, across, low, high, tip, tips, ends, on, Meets, first}
+use Rattle.sheet.specs.Geometry.{along, low, high, tip, tips, ends, on, Meets, first}
 use Rattle.sheet.specs.Split.{split_one, split_at, split_all}
 use Rattle.sheet.specs.Run.{kept, run, rest, standing, lay, lay_wire}
 use Rattle.sheet.proofs.Geometry.{On, on_reads, same_dir}

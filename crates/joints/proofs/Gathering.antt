@@ -4,7 +4,7 @@ use native.Mathlib.Omega.{arith}
 use mathlib.Core.List.{List, [], ◌∷◌, ◌++◌, map, append_assoc}
 use mathlib.Core.Logic.{◌≢◌}
 use mathlib.Core.Path.{◌≡◌, sym, ap, subst, ◌∙◌}
-use Rattle.lists.specs.Lists.{Rows, more}
+use Rattle.lists.specs.Lists.{Rows}
 use lib.ListN.{length, take, drop, get_or, set}
 use Rattle.lists.specs.Tables.{Holds}
 use Rattle.lists.proofs.Tables.{holds_self, holds_list, holds_as, holds_push}

@@ -1,5 +1,4 @@
 -- A pass from the front: what is out, the wire still growing and what the rows left make of it are the whole, whatever the pads.
-use mathlib.Core.Logic.{⊎_elim}
 use mathlib.Core.Path.{◌≡◌, refl}
 use lib.ListN.{length}
 use Rattle.lists.proofs.Tables.{long}

@@ -1,7 +1,6 @@
 -- A search: the rows passed all stay before the wire.
 use mathlib.Core.Bool.{not}
 use mathlib.Core.Path.{sym, ap, ◌∙◌}
-use Rattle.sheet.specs.Geometry.{first}
 use Rattle.lists.proofs.Tables.{long}
 use Rattle.lists.proofs.Walks.{span_start, span_next, span_stop, span_end}
 use native.Mathlib.Omega.{arith}

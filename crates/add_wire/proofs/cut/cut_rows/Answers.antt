@@ -1,7 +1,5 @@
 -- Rows behind rows: what is done and what the rows left give are the whole; with no room for the next there is none for all.
 use mathlib.Core.Path.{refl, sym, ◌∙◌}
-use mathlib.Core.Logic.{⊎_elim}
-use mathlib.Core.Bool.{false}
 use Rattle.lists.proofs.Tables.{long, holds_push, holds_push_two}
 use Rattle.add_wire.proofs.Crossed.{across_cut, across_whole}
 use Rattle.add_wire.proofs.Adding.{add_start, add_next, add_over, add_end, adds_full, adds_room}

@@ -1,7 +1,5 @@
 -- The run piece by piece: what is done and what is left of it, cut from place a on, are the whole.
 use mathlib.Core.Path.{refl}
-use mathlib.Core.Logic.{⊎_elim}
-use mathlib.Core.Bool.{false}
 use Rattle.add_wire.proofs.Adding.{slice_start, slice_cut, slice_skip, slice_over, slice_end, slice_end_over, adds_full, adds_room}
 use native.Mathlib.Omega.{arith}
 use Rattle.add_wire.proofs.cut.cut_run.Goals as goal

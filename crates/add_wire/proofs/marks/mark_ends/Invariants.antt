@@ -4,7 +4,7 @@ use mathlib.Core.Path.{◌≡◌}
 use lib.ListN.{length}
 use Rattle.lists.specs.Lists.{keep}
 use Rattle.lists.proofs.Passes.{Pass}
-use Rattle.sheet.specs.Geometry.{tips, on, ends}
+use Rattle.sheet.specs.Geometry.{tips, on}
 use Rattle.add_wire.specs.Marks.{Marked}
 use Rattle.add_wire.proofs.marks.mark_ends.Given as goal
 

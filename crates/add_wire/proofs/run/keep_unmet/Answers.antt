@@ -1,8 +1,6 @@
 -- A pass: after i rows the table holds those of them that the new wire does not meet.
 use mathlib.Core.Bool.{not}
-use mathlib.Core.Logic.{⊎_elim}
 use mathlib.Core.Path.{sym, ap, ◌∙◌}
-use Rattle.sheet.specs.Geometry.{meets}
 use Rattle.sheet.specs.Run.{kept}
 use Rattle.lists.proofs.Tables.{long, holds_push, holds_as}
 use Rattle.lists.proofs.Passes.{pass_start, pass_next, pass_skip, pass_end, only_yes, only_no, keep_gather}

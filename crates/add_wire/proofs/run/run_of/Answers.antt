@@ -1,5 +1,4 @@
 -- A fold: after i rows the run reaches to the outermost ends of those of them that it meets.
-use mathlib.Core.Logic.{⊎_elim}
 use mathlib.Core.Path.{sym, ◌∙◌}
 use Rattle.lists.proofs.Tables.{long}
 use Rattle.add_wire.proofs.Running.{run_start, run_yes, run_no, run_end}

@@ -3,7 +3,7 @@ use Prim.Native.Nat.{◌≤◌, ◌-◌, ◌*◌}
 use mathlib.Core.Path.{◌≡◌}
 use lib.ListN.{length}
 use Rattle.lists.proofs.Passes.{Pass}
-use Rattle.sheet.specs.Geometry.{tips, ends}
+use Rattle.sheet.specs.Geometry.{tips}
 use Rattle.joints.specs.Keys.{Keyed}
 use Rattle.joints.proofs.keys.end_keys.Given as goal
 

@@ -2,7 +2,6 @@
 use Prim.Native.Nat.{◌<◌}
 use native.Mathlib.Omega.{arith}
 use mathlib.Core.Path.{◌≡◌}
-use mathlib.Core.Logic.{⊎_elim}
 use lib.ListN.{length}
 use Rattle.lists.proofs.Tables.{long}
 use Rattle.joints.proofs.Gathering.{gather_start, gather_same, gather_next, gather_end, gather_none}

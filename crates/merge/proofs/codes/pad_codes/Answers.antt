@@ -1,6 +1,5 @@
 -- A pass: after i pads their numbers stand behind those that were there.
 use mathlib.Core.Path.{refl}
-use mathlib.Core.List.{[]}
 use lib.ListN.{length-set}
 use Rattle.lists.proofs.Tables.{long}
 use Rattle.lists.proofs.Passes.{pass_start, pass_next, pass_end, gather_map}

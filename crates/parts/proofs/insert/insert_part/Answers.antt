@@ -1,7 +1,6 @@
 -- A pass: the rows passed, and those to come with the row carried, are together the rows with the component put in.
 use native.Mathlib.Omega.{arith}
 use mathlib.Core.Bool.{◌||◌}
-use mathlib.Core.Logic.{⊎_elim}
 use mathlib.Core.Path.{sym, ap, ◌∙◌}
 use lib.ListN.{length-set}
 use Rattle.lists.proofs.Tables.{long}

@@ -4,7 +4,6 @@ use mathlib.Core.Path.{refl}
 use Rattle.lists.proofs.Tables.{long}
 use Rattle.lists.proofs.Passes.{pass_start, pass_next, pass_end}
 use Rattle.symbol.specs.Symbols.{unused}
-use Rattle.sheet.specs.Parts.{pads}
 use Rattle.parts.proofs.Fitting.{row_fits}
 use Rattle.parts.proofs.Listing.{lists_none, lists_block}
 use Rattle.parts.proofs.pads.all_pads.Goals as goal

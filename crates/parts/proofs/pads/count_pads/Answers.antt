@@ -3,7 +3,6 @@ use native.Mathlib.Omega.{arith}
 use mathlib.Core.Path.{refl}
 use Rattle.lists.proofs.Tables.{long}
 use Rattle.lists.proofs.Passes.{pass_start, pass_next, pass_end}
-use Rattle.sheet.specs.Parts.{pads}
 use Rattle.parts.proofs.Listing.{many_none, many_more}
 use Rattle.parts.proofs.pads.count_pads.Goals as goal
 

@@ -1,7 +1,6 @@
 -- A pass: after i rows the table holds those of them that come out as told.
 use native.Mathlib.Omega.{arith}
 use mathlib.Core.Bool.{beq}
-use mathlib.Core.Logic.{⊎_elim}
 use mathlib.Core.Path.{sym, ap, ◌∙◌}
 use Rattle.lists.proofs.Tables.{long, holds_push, holds_as}
 use Rattle.lists.proofs.Passes.{pass_start, pass_next, pass_skip, pass_end, only_yes, only_no, keep_gather}

@@ -1,8 +1,6 @@
 -- A walk: no row passed so far, or the first one found.
 use Prim.Native.Nat.{◌<◌}
 use native.Mathlib.Omega.{arith}
-use mathlib.Core.Bool.{true}
-use mathlib.Core.Logic.{⊎_elim}
 use mathlib.Core.Path.{sym, ◌∙◌}
 use Rattle.lists.proofs.Tables.{long}
 use Rattle.lists.proofs.First.{sought_start, sought_within, sought_next, sought_stop, sought_end}
