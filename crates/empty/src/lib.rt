@@ -1,4 +1,6 @@
 // The empty drawing.
+#![tactic(auto)]
+
 ghost use Rattle.std.specs.Prelude.{◌≡◌};
 ghost use Rattle.sheet.specs.Drawings.{empty_sheet};
 ghost use Rattle.sheet.specs.Drawings;

@@ -1,0 +1,9 @@
+-- `empty::empty_drawing` meets its contract: no wires and no components.
+use Rattle.empty.proofs.Emptiness.{empty_sound, empty_is, empty_lawful}
+use Rattle.empty.proofs.empty_drawing.Goals as goal
+
+pub drawn-requires : goal.drawn-requires
+drawn-requires c = empty_sound c.no_wires-ws.ensures c.no_parts-cs.ensures
+
+pub returns : goal.returns
+returns c = empty_lawful c.drawn.ensures (empty_is c.no_wires-ws.ensures c.no_parts-cs.ensures)
