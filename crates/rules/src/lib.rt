@@ -1,4 +1,6 @@
 // The drawing check, each rule by its own words: rules 3 to 6 here, rule 1 in `limits`, rules 2 and 7 in `row_order`.
+#![tactic(auto)]
+
 pub mod boxes;
 pub mod free;
 pub mod listed;
