@@ -3,8 +3,8 @@
 
 pub mod output;
 
-ghost use Rattle.std.specs.Prelude.{length};
-ghost use Rattle.streams.specs.Reads.{Brings, Fills};
+ghost use Rattle.std.specs.Prelude.{◌≡◌, length};
+ghost use Rattle.streams.specs.Reads.{Brings, Takes, Fills, TakesAll};
 
 pub use output::{Output, tell_block, write_block};
 use std::io::{Read, Stderr, Stdin, Stdout, Write};
@@ -53,7 +53,9 @@ pub struct Filled {
 
 // One read of standard input.
 pub fn read_chunk<R: Read, W, E: Write>(s: &mut Streams<R, W, E>, chunk: &mut [u8]) -> Got
-    ensures { Brings (length chunk.new) result }
+    ensures brings { Brings (length chunk.new) result }
+    ensures takes { Takes (R.remaining s.old.input) (R.remaining s.new.input) result chunk.new }
+    ensures output { s.new.output ≡ s.old.output }
 {
     match s.input.read(chunk) {
         Ok(0) => Got::End,
@@ -67,7 +69,9 @@ pub fn read_chunk<R: Read, W, E: Write>(s: &mut Streams<R, W, E>, chunk: &mut [u
 
 // Fills a lent buffer from standard input, until it is full, the input ends or a read fails.
 pub fn fill<R: Read, W, E: Write>(s: &mut Streams<R, W, E>, buffer: &mut [u8]) -> Filled
-    ensures { Fills (length buffer.new) result }
+    ensures fills { Fills (length buffer.new) result }
+    ensures takes { TakesAll (R.remaining s.old.input) (R.remaining s.new.input) result buffer.new }
+    ensures output { s.new.output ≡ s.old.output }
 {
     let mut count = 0;
     while count < buffer.len() {

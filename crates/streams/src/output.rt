@@ -2,6 +2,7 @@
 // handed over, in their order: the contracts say of which bytes it is the sum.
 ghost use Rattle.std.specs.Prelude.{◌≡◌};
 ghost use Rattle.streams.specs.Sums.{next_sum, sum_of};
+ghost use Rattle.streams.specs.Writes.{Writes};
 
 use crate::Streams;
 use std::io::Write;
@@ -39,7 +40,9 @@ pub fn write_block<R, W: Write, E: Write>(
     sum: u32,
     block: &[u8],
 ) -> Output
-    ensures { result.sum ≡ sum_of sum block.now }
+    ensures sum { result.sum ≡ sum_of sum block.now }
+    ensures writes { Writes (W.contents s.old.output) (W.contents s.new.output) result block.now }
+    ensures input { s.new.input ≡ s.old.input }
 {
     let failed = match s.output.write_all(block) {
         Ok(()) => false,
@@ -56,7 +59,9 @@ pub fn write_block<R, W: Write, E: Write>(
 
 // Hands a block to standard error, behind what was handed over there before: the sum with it. A failure has no other place to be told.
 pub fn tell_block<R, W, E: Write>(s: &mut Streams<R, W, E>, sum: u32, block: &[u8]) -> u32
-    ensures { result ≡ sum_of sum block.now }
+    ensures sum { result ≡ sum_of sum block.now }
+    ensures input { s.new.input ≡ s.old.input }
+    ensures output { s.new.output ≡ s.old.output }
 {
     let _ = s.errors.write_all(block);
     sum_of(sum, block)
