@@ -11,7 +11,7 @@ use Rattle.sheet.specs.declared.Joint.{Joint}
 use Rattle.sheet.specs.declared.Drawing.{Drawing}
 use Rattle.sheet.specs.Geometry.{ends}
 use Rattle.sheet.specs.Parts.{pads_of}
-use Rattle.sheet.specs.Drawings.{Sheet, marks_of, joints, wire_rows, component_rows, joint_rows, lists_of}
+use Rattle.sheet.specs.Drawings.{Sheet, marks_of, wire_rows, component_rows, joint_rows, lists_of}
 use Rattle.sheet.specs.Rules.{Lawful}
 use Rattle.sheet.proofs.Rules.{lawful_joints}
 use Rattle.wires.specs.declared.Points.{Points}

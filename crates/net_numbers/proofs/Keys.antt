@@ -10,7 +10,6 @@ use Rattle.lists.proofs.Tests.{compare}
 use Rattle.symbol.specs.declared.Point.{Point}
 use Rattle.sheet.specs.declared.Joints.{Joints}
 use Rattle.sheet.specs.Points.{Rise, lower, level}
-use Rattle.sheet.specs.Joints.{joint_point}
 use Rattle.sheet.specs.Drawings.{joint_rows, zero_joint}
 use Rattle.joints.specs.Keys.{spot, KeysOf}
 use Rattle.joints.proofs.Keying.{keys_at}

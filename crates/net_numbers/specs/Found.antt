@@ -1,6 +1,6 @@
 -- Below the calls: joints found by key ("components and joints by (y, x)"): rows of joints as rising keys, and tables that hold points by
 -- the numbers of their joints.
-use Rattle.std.specs.Prelude.{ℕ, suc, ◌<◌, ◌≤◌, List, map, ◌≡◌, length, get_or, take}
+use Rattle.std.specs.Prelude.{ℕ, suc, ◌<◌, ◌≤◌, List, map, ◌≡◌, get_or}
 use Rattle.lists.specs.Lists.{◌∈◌}
 use Rattle.symbol.specs.declared.Point.{Point}
 use Rattle.sheet.specs.declared.Wire.{Wire}

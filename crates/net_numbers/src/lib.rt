@@ -1,4 +1,6 @@
 // The net numbers of a drawing's pads: its joints numbered by their rows, found by key, and then the nets.
+#![tactic(auto)]
+
 ghost use Rattle.std.specs.Prelude.{◌≡◌, ◌≤◌};
 ghost use Rattle.lists.specs.Lists.{keep};
 ghost use Rattle.lists.specs.Tables.{pad};

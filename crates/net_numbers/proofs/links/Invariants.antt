@@ -1,0 +1,18 @@
+-- `net_numbers::links` meets its contract: the rows so far are the numbers at the ends of the wires passed.
+use Prim.Native.Nat.{◌≤◌, ◌-◌}
+use mathlib.Core.Path.{◌≡◌}
+use lib.ListN.{length}
+use Rattle.sheet.specs.Geometry.{ends}
+use Rattle.sheet.specs.Drawings.{wire_rows, joint_rows}
+use Rattle.nets.specs.Tables.{link_ends}
+use Rattle.lists.proofs.Finding.{Filled}
+use Rattle.net_numbers.proofs.Keys.{Ready}
+use Rattle.net_numbers.proofs.Filling.{numbers_of}
+use Rattle.net_numbers.proofs.links.Given as goal
+
+abbrev pub invariant-loop-i : goal.invariant-loop-i
+invariant-loop-i l =
+    (l.i ≤ l.n) × (length l.ws.rows ≡ 512) × (length l.rows ≡ 512) × Ready (ends (wire_rows l.ws)) l.js l.keys × Filled link_ends (numbers_of (joint_rows l.js)) l.ws.rows l.i l.rows
+
+abbrev pub decreases-loop-i : goal.decreases-loop-i
+decreases-loop-i l = l.n - l.i
