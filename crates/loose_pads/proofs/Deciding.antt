@@ -2,12 +2,10 @@
 use Prim.Native.Nat.{ℕ, suc, ◌+◌, ◌-◌, ◌<◌}
 use native.Mathlib.Omega.{arith}
 use mathlib.Core.Bool.{Bool, ◌&&◌}
-use mathlib.Core.List.{List}
 use mathlib.Core.Logic.{◌⊎◌, inl, inr}
-use mathlib.Core.Path.{◌≡◌, refl, sym, ap, subst, ◌∙◌}
-use lib.Dec.{eqb}
+use mathlib.Core.Path.{◌≡◌, refl, sym, ap, subst}
 use lib.ListN.{length, get_or, get_or-eq_default as get_or_past}
-use Rattle.lists.proofs.Tests.{Reads, pass, fail, reads_as, not_reads, and_reads, eqb_reads, ltb_reads, decide}
+use Rattle.lists.proofs.Tests.{Reads, fail, reads_as, not_reads, and_reads, eqb_reads, ltb_reads, decide}
 use Rattle.symbol.specs.declared.Point.{Point}
 use Rattle.sheet.specs.Parts.{pads_of}
 use Rattle.sheet.specs.Drawings.{Sheet}

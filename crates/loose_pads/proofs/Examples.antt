@@ -1,5 +1,5 @@
 -- The small drawings of docs/SCRIPT.md, and one that each of two other readings of the request would count otherwise.
-use mathlib.Core.List.{List, [], ◌∷◌}
+use mathlib.Core.List.{[], ◌∷◌}
 use mathlib.Core.Path.{◌≡◌, refl}
 use Rattle.lists.specs.Lists.{any, keep, insert, gather}
 use Rattle.lists.specs.Span.{span}

@@ -4,9 +4,9 @@ use native.Mathlib.Omega.{arith}
 use mathlib.Core.List.Memᴰ.{head as ∈-head}
 use mathlib.Core.List.Memᴰ.{not-nil as ∈-nil}
 use mathlib.Core.List.Memᴰ.{tail as ∈-tail}
-use mathlib.Core.List.{List, [], ◌∷◌}
+use mathlib.Core.List.{List, ◌∷◌}
 use mathlib.Core.Logic.{◌⊎◌, inl, inr}
-use mathlib.Core.Path.{◌≡◌, refl, sym, subst}
+use mathlib.Core.Path.{◌≡◌, refl}
 use lib.ListN.{length}
 use Rattle.lists.specs.Lists.{◌∈◌, Rows, none, more}
 use Rattle.lists.proofs.Lists.{in_cons, keep_in, in_keep}

@@ -1,9 +1,9 @@
 -- A number that occurs once stands at one place, and one that occurs otherwise at another place too.
-use Prim.Native.Nat.{ℕ, zero, suc, ◌+◌, ◌<◌}
+use Prim.Native.Nat.{ℕ, suc, ◌<◌}
 use native.Mathlib.Omega.{arith}
 use mathlib.Core.List.{List, [], ◌∷◌}
 use mathlib.Core.Logic.{◌⊎◌, inl, inr}
-use mathlib.Core.Path.{◌≡◌, refl, sym, subst}
+use mathlib.Core.Path.{◌≡◌, refl, ap, subst}
 use lib.Dec.{eqb}
 use lib.ListN.{length}
 use Rattle.lists.specs.Lists.{keep}
@@ -33,6 +33,7 @@ some_at n (m ∷ ns) h = here (decide (eqb_reads n m)) (some_at n ns)
     here (inr f) rest = let r = rest (omega (arith, occurs_on n m ns f)) in (suc r.0, later r.1)
 
 at_some_times : {ns : List ℕ} {i n : ℕ} → At ns i n → 0 < occurs n ns
+at_some_times {ns = []} a = elim a [ ]
 at_some_times {ns = m ∷ ns} {n = n} first = omega (arith, occurs_here n n ns refl)
 at_some_times {ns = m ∷ ns} {n = n} (later a) = here (decide (eqb_reads n m)) (at_some_times a)
   where
@@ -40,17 +41,23 @@ at_some_times {ns = m ∷ ns} {n = n} (later a) = here (decide (eqb_reads n m)) 
     here (inl e) h = omega (arith, occurs_here n m ns e)
     here (inr f) h = omega (arith, occurs_on n m ns f)
 
-pub alone_at : {ns : List ℕ} {i j n : ℕ} → At ns i n → At ns j n → occurs n ns ≡ 1 → j ≡ i
-alone_at first first e = refl
-alone_at {ns = m ∷ ns} {n = n} first (later b) e = absurd (omega (arith, occurs_here n n ns refl, at_some_times b))
-alone_at {ns = m ∷ ns} {n = n} (later a) first e = absurd (omega (arith, occurs_here n n ns refl, at_some_times a))
-alone_at {ns = m ∷ ns} {n = n} (later {i = i} a) (later {i = j} b) e = here (decide (eqb_reads n m)) (alone_at a b)
+-- the same of two numbers that are equal
+alone_same : {ns : List ℕ} {i j n k : ℕ} → At ns i n → At ns j k → n ≡ k → occurs n ns ≡ 1 → j ≡ i
+alone_same {ns = []} a b p e = elim a [ ]
+alone_same first first p e = refl
+alone_same {ns = m ∷ ns} {n = n} first (later b) p e = absurd (omega (arith, occurs_here n n ns refl, at_some_times b, ap (λ x. occurs x ns) p))
+alone_same {ns = m ∷ ns} {n = n} {k = k} (later a) first p e = absurd (omega (arith, occurs_here n k ns p, at_some_times a))
+alone_same {ns = m ∷ ns} {n = n} (later {i = i} a) (later {i = j} b) p e = here (decide (eqb_reads n m)) (alone_same a b p)
   where
     here : (n ≡ m) ⊎ (n ≡ m → ⊥) → (occurs n ns ≡ 1 → j ≡ i) → suc j ≡ suc i
-    here (inl p) rest = absurd (omega (arith, occurs_here n m ns p, at_some_times a))
+    here (inl q) rest = absurd (omega (arith, occurs_here n m ns q, at_some_times a))
     here (inr f) rest = omega (arith, rest (omega (arith, occurs_on n m ns f)))
 
+pub alone_at : {ns : List ℕ} {i j n : ℕ} → At ns i n → At ns j n → occurs n ns ≡ 1 → j ≡ i
+alone_at a b e = alone_same a b refl e
+
 pub other_at : {ns : List ℕ} {i n : ℕ} → At ns i n → (occurs n ns ≡ 1 → ⊥) → (j : ℕ) × (j ≡ i → ⊥) × At ns j n
+other_at {ns = []} a f = elim a [ ]
 other_at {ns = m ∷ ns} {n = n} first f =
     let some : 0 < occurs n ns = above (decide (eqb_reads (occurs n ns) 0)) in
     let r = some_at n ns some in

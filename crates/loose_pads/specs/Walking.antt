@@ -1,5 +1,5 @@
 -- Below the calls: the loose pads component by component, and the table of how often each net number occurs.
-use Rattle.std.specs.Prelude.{ℕ, zero, suc, ◌+◌, ◌<◌, Bool, true, not, ◌&&◌, cond, List, ◌≡◌, eqb, length, get_or}
+use Rattle.std.specs.Prelude.{ℕ, zero, suc, ◌+◌, ◌<◌, Bool, true, ◌&&◌, cond, List, ◌≡◌, length, get_or}
 use Rattle.loose_pads.specs.Counting.{occurs}
 
 -- no number is above 384, which is how many pads a drawing can have

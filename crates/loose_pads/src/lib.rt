@@ -1,4 +1,6 @@
 // How many pads of a drawing are loose (document 02, P2), told by their net numbers.
+#![tactic(auto)]
+
 ghost use Rattle.std.specs.Prelude.{not, ◌&&◌, ◌≡◌, ◌≤◌, ◌<◌, eqb, length, get_or};
 ghost use Rattle.lists.specs.Tables.{pad};
 ghost use Rattle.sheet.specs.Drawings.{component_rows, lists_of};
