@@ -1,6 +1,6 @@
 -- 7,936 bytes always suffice: 62 for each of 128 components, where labels have at most 16 bytes and numbers three digits.
 use mathlib.Core.Path.{◌≡◌, refl, subst}
-use mathlib.Core.Bool.{Bool, true, false, cond}
+use mathlib.Core.Bool.{Bool, cond}
 use mathlib.Core.List.Memᴰ.{head as ∈-head}
 use mathlib.Core.List.Memᴰ.{of_map as ∈-of-map}
 use mathlib.Core.List.Memᴰ.{tail as ∈-tail}

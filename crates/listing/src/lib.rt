@@ -1,4 +1,6 @@
 // The wiring list of a drawing known to be lawful, as bytes in a lent buffer, by the net numbers of its pads.
+#![tactic(auto)]
+
 mod lines;
 
 ghost use Rattle.std.specs.Prelude.{◌≡◌, map, ◌≤◌, length};
