@@ -1,5 +1,7 @@
 // Rule 6 over joint rows that rise: each wire end and pad is searched for among the rows and counted there, and the counts are
 // compared.
+#![tactic(auto)]
+
 ghost use Rattle.std.specs.Prelude.{◌≡◌, true, not, ◌&&◌, map, ◌≤◌, eqb};
 ghost use Rattle.sheet.specs.Geometry.{marks};
 ghost use Rattle.sheet.specs.Joints.{joint_point, Rising};
