@@ -1,4 +1,6 @@
 // A saved drawing: what its file is, and what reading one answers.
+#![tactic(auto)]
+
 use sheet::Drawing;
 
 // A reply, and the drawing; the empty one with a refusal.
