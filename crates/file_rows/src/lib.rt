@@ -1,4 +1,6 @@
 // The rows of a file, each read from an index of its bytes on. An answer is a reply, the index behind what was read, and the value.
+#![tactic(auto)]
+
 mod letters;
 mod value;
 
