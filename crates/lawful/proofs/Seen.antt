@@ -12,7 +12,7 @@ use Rattle.symbol.specs.declared.Point.{Point}
 use Rattle.sheet.specs.declared.Wire.{Wire}
 use Rattle.sheet.specs.declared.Joint.{Joint}
 use Rattle.sheet.specs.Geometry.{point, tip, low, high, marks, Inside, Follows, Before}
-use Rattle.sheet.specs.Joints.{joint_point, number, joints_of}
+use Rattle.sheet.specs.Joints.{number, joints_of}
 use Rattle.sheet.specs.Wiring.{AllFit, HeldApart}
 use Rattle.sheet.specs.Rules.{Rule6, Rule2}
 use Rattle.sheet.proofs.Held.{held_reads}

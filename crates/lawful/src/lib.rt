@@ -1,5 +1,7 @@
 // The drawing check, near linear on a lawful drawing: joints are searched for in order and then looked at, and only what is
 // looked at counts. Where anything is off, the plain check names the rule.
+#![tactic(auto)]
+
 mod boxes;
 mod columns;
 mod order;
