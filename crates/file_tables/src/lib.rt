@@ -1,4 +1,6 @@
 // The rows of a saved drawing, read into tables: the horizontal wires, the vertical ones behind them, the components.
+#![tactic(auto)]
+
 mod tables;
 
 ghost use Rattle.std.specs.Prelude.{◌≡◌, drop};
