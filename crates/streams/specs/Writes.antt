@@ -1,4 +1,4 @@
--- What a block handed over does to the bytes that the writer holds, where it tells them.
+-- Below the calls: what a block handed over does to the bytes that the writer holds, where it tells them.
 use Rattle.std.specs.Prelude.{◌≡◌, false, Option, List, ℕ}
 use Rattle.std.specs.Io.KnownBytes.{Appends}
 use Rattle.streams.specs.declared.output.Output.{Output}
