@@ -1,4 +1,6 @@
 // The edits on tables of a sheet: each makes the tables of what its definition says of the sheet, or says which of them has no room.
+#![tactic(auto)]
+
 pub mod delete;
 pub mod draw;
 pub mod place;
