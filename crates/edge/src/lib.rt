@@ -65,6 +65,7 @@ pub fn coordinate(n: u16) -> i32
 }
 
 // A pointer size, 0 to 1,000.
+#[tactic(auto, using(crate::proofs::Sizes::refused_low, crate::proofs::Sizes::refused_high, crate::proofs::Sizes::size_fits, crate::proofs::Sizes::sized_is))]
 pub fn size(s: i32) -> PointerSize
     ensures { sized result ≡ size_of s }
 {

@@ -53,6 +53,7 @@ pub fn label_of(s: &[u8]) -> Label
 }
 
 // The label as rows hold it, or the refusal: too long, or with another byte than 0x21 to 0x7E.
+#[tactic(auto, using(crate::proofs::Filling::too_long), unfolding(crate::specs::Labels::padded))]
 pub fn held_label(l: Label) -> Held
     ensures { result ≡ held_label l }
 {
@@ -76,6 +77,7 @@ pub fn held_label(l: Label) -> Held
 }
 
 // The part of a label's bytes before the first zero, or all.
+#[tactic(auto, using(crate::proofs::Labels::leading))]
 pub fn label_part(bytes: &[u8]) -> &[u8]
     ensures { result.now ≡ label_part bytes.now }
 {

@@ -10,10 +10,6 @@ use Rattle.label.specs.Labels.{graphic, padded}
 use Rattle.label.proofs.Filling.{filled, test_next, test_end, too_long, another_byte, accepted}
 use Rattle.label.proofs.held_label.Goals as goal
 
-pub returns-then-length-gt16 : goal.returns-then-length-gt16
-unfolding padded
-returns-then-length-gt16 c = too_long c.args.l c.if-length-gt16.true
-
 pub loop-i-init : goal.loop-i-init
 unfolding padded
 loop-i-init c = (search rules, search rules, refl, refl)
@@ -35,7 +31,7 @@ returns-else-is_graphic c =
     let l = c.before.before.before in
     let g = l.before.before.before.args.l in
     let k : g.length ≤ length g.bytes = omega arith in
-    another_byte g l.before.if-length-gt16.false
+    another_byte g (omega arith)
     (l.loop-i.invariant.3 ∙ test_next g.bytes g.length k l.loop-i.i c.loop-i-test.true ∙ (λ j. (sym c.is_graphic.ensures ∙ c.if-is_graphic.false) j && all graphic (drop (l.loop-i.i + 1) (take g.length g.bytes))))
 
 pub returns : goal.returns
@@ -44,6 +40,6 @@ returns c =
     let g = l.before.before.before.args.l in
     let k : g.length ≤ length g.bytes = omega arith in
     let e : l.loop-i.i ≡ g.length = omega arith in
-    accepted g l.before.if-length-gt16.false
+    accepted g (omega arith)
     (l.loop-i.invariant.3 ∙ (λ j. all graphic (drop (e j) (take g.length g.bytes))) ∙ test_end g.bytes g.length k)
     (l.loop-i.invariant.2 ∙ (λ j. padded 16 (take (e j) g.bytes)))

@@ -11,12 +11,6 @@ use Rattle.label.proofs.label_part.Goals as goal
 pub slice_bounds-result-end : goal.slice_bounds-result-end
 slice_bounds-result-end c = let l = c.before.before.before.before in sym (length-take-le l.loop-i.i l.before.args.bytes.now l.loop-i.invariant.0)
 
-pub returns-then-bytes-i-eq0 : goal.returns-then-bytes-i-eq0
-returns-then-bytes-i-eq0 c = let l = c.before.before.before.before in leading l.before.args.bytes.now l.loop-i.i l.loop-i.invariant.1 c.if-bytes-i-eq0.true
-
-pub loop-i-preserved : goal.loop-i-preserved
-loop-i-preserved c = (search rules, below_more _ _ c.loop-i.invariant.1 c.if-bytes-i-eq0.false)
-
 pub slice_bounds-result-end-2 : goal.slice_bounds-result-end-2
 slice_bounds-result-end-2 c = let l = c.before.before in sym (length-take-le l.loop-i.i l.before.args.bytes.now l.loop-i.invariant.0)
 
