@@ -2,7 +2,6 @@
 use mathlib.Core.Path.{refl}
 use Rattle.sheet.specs.Drawings.{lists_of}
 use Rattle.rules.proofs.Check.{lawful_none}
-use Rattle.loose_pads.specs.Counting.{HowMany}
 use Rattle.loose_pads.proofs.HowMany.{how_many_loose}
 use Rattle.netlist.specs.Answers.{loose_answer}
 use Rattle.netlist.specs.Request2.{Request2}

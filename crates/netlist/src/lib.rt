@@ -1,4 +1,6 @@
 // The wiring list of a drawing, as bytes in a lent buffer, and the number of its loose pads.
+#![tactic(auto)]
+
 ghost use Rattle.std.specs.Prelude.{◌≡◌, length};
 ghost use Rattle.sheet.specs.Drawings.{lists_of};
 ghost use Rattle.sheet.specs.Rules.{Lawful};
