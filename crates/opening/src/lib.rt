@@ -1,4 +1,6 @@
 // A saved drawing read: a file, or a drawing out of some that stand one behind the other.
+#![tactic(auto)]
+
 ghost use Rattle.std.specs.Prelude.{◌≡◌, length, drop};
 ghost use Rattle.saved.specs.Reading.{read_file, read_front, front_of};
 ghost use Rattle.opening.specs.Whole.{take_up_to};
