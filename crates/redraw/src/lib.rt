@@ -1,4 +1,6 @@
 // The five edits of a drawing that is known to be lawful: who holds one that these made, from the empty drawing on, need not check it.
+#![tactic(auto)]
+
 pub mod component;
 pub mod pointer;
 pub mod wire;
