@@ -78,9 +78,8 @@ fn repeated(call: u8, d: Drawing, what: u8, x: i32, y: i32, z: i32, times: u32) 
     last
 }
 
-// The drawing of the first count edits, and then one call so many times: the last answer.
-#[unsafe(no_mangle)]
-pub extern "C" fn wuyansole_time(
+// The drawing of the first count edits, and then one call so many times: the last answer. `bench_calls_c` hands it to callers in C.
+pub fn wuyansole_time(
     whats: &[u8],
     numbers: &[i32],
     count: u32,
