@@ -24,6 +24,7 @@ pub enum PointerSize {
 }
 
 // A coordinate of a wire end or the pointer, -6,000 to 6,000, as rows hold it.
+#[tactic(auto, using(crate::proofs::Coordinates::low, crate::proofs::Coordinates::high, crate::proofs::Coordinates::sum_fits, crate::proofs::Coordinates::cast_fits, crate::proofs::Coordinates::held))]
 pub fn held_coordinate(x: i32) -> Found
     ensures { result ≡ biased_within 6000 x }
 {
