@@ -1,4 +1,6 @@
 // A drawing written as a file into a lent buffer.
+#![tactic(auto)]
+
 mod rows;
 
 ghost use Rattle.std.specs.Prelude.{◌≡◌, ◌≤◌, length};
