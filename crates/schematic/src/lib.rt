@@ -1,5 +1,7 @@
 // The edits of a drawing that a caller lends: the drawing is checked first. Each is refused by document 01's number, in its order,
 // with the drawing and the tally as they were; or it gives 0, the drawing after the edit and its tally.
+#![tactic(auto)]
+
 ghost use Rattle.std.specs.Prelude.{◌≡◌};
 ghost use Rattle.redraw.specs.Calls;
 ghost use Rattle.schematic.specs.Calls.{checked};

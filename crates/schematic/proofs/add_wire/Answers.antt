@@ -1,0 +1,19 @@
+-- The check, and then the edit.
+use mathlib.Core.Path.{◌∙◌}
+use Rattle.sheet.proofs.Owned.{owned}
+use Rattle.asked.proofs.Handed.{handed_three}
+use Rattle.redraw.specs.Calls.{add_wire}
+use Rattle.rules.proofs.Found.{lawful_found}
+use Rattle.schematic.proofs.Checking.{unlawful_refused, lawful_edited}
+use Rattle.schematic.proofs.add_wire.Goals as goal
+
+pub returns-then-k-ne0 : goal.returns-then-k-ne0
+returns-then-k-ne0 c = c.refused.ensures ∙ unlawful_refused c.args.d c.check-k.ensures c.args.t _ c.if-k-ne0.true
+
+pub add_wire_on-requires : goal.add_wire_on-requires
+add_wire_on-requires c = lawful_found c.args.d c.check-k.ensures (owned _ _ c.well_formed.0.1.1) c.if-k-ne0.false
+
+pub returns : goal.returns
+returns c =
+    c.add_wire_on.ensures ∙ handed_three (λ l a e. add_wire c.args.d c.args.vertical l a e c.args.t) _ _ _ c.ranges.line c.ranges.start c.ranges.end
+    ∙ lawful_edited c.args.d c.check-k.ensures c.args.t _ c.if-k-ne0.false
