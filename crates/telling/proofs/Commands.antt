@@ -1,40 +1,36 @@
--- Commands by their places among the eight: what the last arm of a match knows.
+-- Commands: what the last arm of a match knows.
 use mathlib.Core.Path.{◌≡◌, refl, sym, subst}
 use mathlib.Core.Bool.{true, false}
 use lib.Dec.{T}
-use mathlib.Core.Logic.{⊎_elim}
-use mathlib.Core.List.{[], ◌∷◌}
-use native.Mathlib.Omega.{arith}
-use types.Run.{OneOf}
-use denote.Enum.Declared.{tag_of}
+use mathlib.Core.List.{[]}
+use lib.IntN.{ℤ}
 use Rattle.redraw.specs.declared.Edited.{Edited}
 use Rattle.script.specs.declared.Command.{Command}
 use Rattle.script.specs.declared.Command.TheVariants.{Horizontal, Vertical, Place, Delete, Turn, Mirror, Nets, Unreadable}
-use Rattle.script.specs.contracts.Command as command
 use Rattle.telling.specs.Told.{After, told}
 use Rattle.telling.specs.Fitting.{asks_list, is_counted, reply_line}
 
 -- any but `n` asks for no list
-pub no_list : (k : Command) → OneOf (0 ∷ 1 ∷ 2 ∷ 3 ∷ 4 ∷ 5 ∷ 7 ∷ []) (tag_of command.the_type k) → false ≡ asks_list k
+pub no_list : (k : Command) → (k ≡ Nets → ⊥) → false ≡ asks_list k
 no_list (Horizontal y x1 x2) o = refl
 no_list (Vertical x y1 y2) o = refl
 no_list (Place kind orient x y label) o = refl
 no_list (Delete x y size) o = refl
 no_list (Turn x y size) o = refl
 no_list (Mirror x y size) o = refl
-no_list Nets o = absurd (⊎_elim (λ e. omega arith) (⊎_elim (λ e. omega arith) (⊎_elim (λ e. omega arith) (⊎_elim (λ e. omega arith) (⊎_elim (λ e. omega arith) (⊎_elim (λ e. omega arith) (λ e. omega arith)))))) o)
+no_list Nets o = absurd (o refl)
 no_list Unreadable o = refl
 
 -- any but turn and mirror is told without counts
-pub no_counts : (k : Command) → OneOf (0 ∷ 1 ∷ 2 ∷ 3 ∷ 6 ∷ 7 ∷ []) (tag_of command.the_type k) → false ≡ is_counted k
-no_counts (Horizontal y x1 x2) o = refl
-no_counts (Vertical x y1 y2) o = refl
-no_counts (Place kind orient x y label) o = refl
-no_counts (Delete x y size) o = refl
-no_counts (Turn x y size) o = absurd (⊎_elim (λ e. omega arith) (⊎_elim (λ e. omega arith) (⊎_elim (λ e. omega arith) (⊎_elim (λ e. omega arith) (⊎_elim (λ e. omega arith) (λ e. omega arith))))) o)
-no_counts (Mirror x y size) o = absurd (⊎_elim (λ e. omega arith) (⊎_elim (λ e. omega arith) (⊎_elim (λ e. omega arith) (⊎_elim (λ e. omega arith) (⊎_elim (λ e. omega arith) (λ e. omega arith))))) o)
-no_counts Nets o = refl
-no_counts Unreadable o = refl
+pub no_counts : (k : Command) → ((x y size : ℤ) → k ≡ Turn x y size → ⊥) → ((x y size : ℤ) → k ≡ Mirror x y size → ⊥) → false ≡ is_counted k
+no_counts (Horizontal y x1 x2) t m = refl
+no_counts (Vertical x y1 y2) t m = refl
+no_counts (Place kind orient x y label) t m = refl
+no_counts (Delete x y size) t m = refl
+no_counts (Turn x y size) t m = absurd (t x y size refl)
+no_counts (Mirror x y size) t m = absurd (m x y size refl)
+no_counts Nets t m = refl
+no_counts Unreadable t m = refl
 
 -- ---- what is told of a command, by the two tests
 

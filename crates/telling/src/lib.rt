@@ -1,4 +1,6 @@
 // What is printed for a line: its answer line, which is written if the lent buffer has room for it, and for `n` the list before it.
+#![tactic(auto)]
+
 ghost use Rattle.std.specs.Prelude.{◌≡◌, ◌≤◌, length};
 ghost use Rattle.sheet.specs.Rules.{Lawful};
 ghost use Rattle.text.specs.Text.{Put};
