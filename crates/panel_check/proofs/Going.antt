@@ -1,6 +1,6 @@
 -- For the loop that takes the lines of a chunk: `start`, `on_line`, and the three ways out, `on_more`, `at_end` and, after a failed write,
 -- `broken`.
-use mathlib.Core.Path.{◌≡◌, refl, sym, ap, subst, ◌∙◌}
+use mathlib.Core.Path.{◌≡◌, sym, ap, subst, ◌∙◌}
 use mathlib.Core.Bool.{true}
 use mathlib.Core.List.{List, [], ◌++◌, append-nil, append_assoc}
 use Prim.Native.Nat.{ℕ, ◌≤◌}

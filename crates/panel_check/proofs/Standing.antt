@@ -1,11 +1,10 @@
 -- What one answer and one line come to: `answers` for `answer`; `stays`, `ends` and `grows` for `take_line`.
-use mathlib.Core.Path.{◌≡◌, refl, sym, ap, ap₂, subst, ◌∙◌}
-use mathlib.Core.Bool.{Bool, true, false, cond, not}
+use mathlib.Core.Path.{◌≡◌, sym, ap, subst, ◌∙◌}
+use mathlib.Core.Bool.{Bool, true, false, not}
 use mathlib.Core.Logic.{⊎_elim}
-use mathlib.Core.List.{List, [], ◌∷◌, ◌++◌, append-nil, append_assoc}
+use mathlib.Core.List.{List, [], ◌++◌, append-nil, append_assoc}
 use Prim.Native.Nat.{ℕ, ◌+◌, ◌<◌, ◌≤◌}
 use native.Mathlib.Omega.{arith}
-use lib.Dec.{leb}
 use lib.ListN.{length, take, drop, length-append}
 use lib.Seq.{take_all, take-append-le, length-take-le}
 use borrow.Author.Tests.{le-leb, lt-leb}
@@ -23,7 +22,7 @@ use Rattle.sketch.specs.Sketches.{empty_sketch, added_of}
 use Rattle.panel_check.specs.declared.State.{State}
 use Rattle.panel_check.specs.Answers.{verdict_line, is_end, next_number}
 use Rattle.panel_check.specs.Telling.{verdict_of, told_after}
-use Rattle.panel_check.specs.Printing.{Spilled, none, many, kept_of, told_so_far, Appended, Takes}
+use Rattle.panel_check.specs.Printing.{Spilled, none, many, kept_of, Appended, Takes}
 
 pub spilled_both : {v w : List ℕ} → Spilled v → Spilled w → Spilled (v ++ w)
 spilled_both none s = s
