@@ -6,8 +6,6 @@ use Prim.Native.Nat.{ℕ, ◌-◌, ◌<◌, ◌^◌}
 use lib.IntN.{ℤ}
 use lib.ListN.{length, take, drop}
 use lib.Signed.{mag}
-use mir.Syntax.{w32}
-use mir.Val.{hbits}
 use Rattle.asked.proofs.Handed.{bits, handed_three}
 use Rattle.label.specs.Labels.{label_of}
 use Rattle.sheet.specs.declared.Drawing.{Drawing}
@@ -41,22 +39,18 @@ edit_three delete line x y z = refl
 edit_three turn line x y z = refl
 edit_three mirror line x y z = refl
 
--- z fits 32 bits, beside what else is known of it
-abbrev Fits : Type 0 → ℤ → Type 0
-Fits P z = P × (mag z < 2 ^ hbits w32)
-
 module _ {d : Drawing} (l : Lawful d) (t : Tally) (line : List ℕ) {command : Command} {e : Edited} where
-  pub by_three : {k : ℤ → ℤ → ℤ → Command} {f : ℤ → ℤ → ℤ → Edited} → Three d t k f → {x y z : ℤ} {P Q R S : Type 0}
-      → command ≡ k x y z → Fits P x × (Fits Q y × (Fits R z × S)) → e ≡ f (bits x) (bits y) (bits z) → e ≡ edit_of d t line command
-  by_three {k} {f} three {x} {y} {z} is-k fits is_f =
-      is_f ∙ handed_three f x y z (record { sfits = fits.0.1 }) (record { sfits = fits.1.0.1 }) (record { sfits = fits.1.1.0.1 })
+  pub by_three : {k : ℤ → ℤ → ℤ → Command} {f : ℤ → ℤ → ℤ → Edited} → Three d t k f → (x y z : ℤ) → command ≡ k x y z → mag x < 2 ^ 31 → mag y < 2 ^ 31 → mag z < 2 ^ 31
+      → e ≡ f (bits x) (bits y) (bits z) → e ≡ edit_of d t line command
+  by_three {k} {f} three x y z is-k fx fy fz is_f =
+      is_f ∙ handed_three f x y z (record { sfits = fx }) (record { sfits = fy }) (record { sfits = fz })
       ∙ lawful_passes l t (f x y z) ∙ edit_three three line x y z ∙ ap (edit_of d t line) (sym is-k)
 
-  pub by_place : {kind orient x y : ℤ} {at : ℕ} {P Q R S U : Type 0} → command ≡ Place kind orient x y at → Fits P kind × (Fits Q orient × (Fits R x × (Fits S y × U)))
+  pub by_place : (kind orient x y : ℤ) (at : ℕ) → command ≡ Place kind orient x y at → mag kind < 2 ^ 31 → mag orient < 2 ^ 31 → mag x < 2 ^ 31 → mag y < 2 ^ 31
       → e ≡ add_component d (choice_of (bits kind)) (choice_of (bits orient)) (bits x) (bits y) (label_of (take (length line - at) (drop at line))) t → e ≡ edit_of d t line command
   unfolding edit_of
-  by_place {kind} {orient} {x} {y} {at} is-k fits is-e =
-      is-e ∙ line_placed d kind orient x y at line t (record { sfits = fits.0.1 }) (record { sfits = fits.1.0.1 }) (record { sfits = fits.1.1.0.1 }) (record { sfits = fits.1.1.1.0.1 })
+  by_place kind orient x y at is-k fk fo fx fy is-e =
+      is-e ∙ line_placed d kind orient x y at line t (record { sfits = fk }) (record { sfits = fo }) (record { sfits = fx }) (record { sfits = fy })
       ∙ lawful_passes l t (add_component d (choice_of kind) (choice_of orient) x y (label_of (drop at line)) t) ∙ ap (edit_of d t line) (sym is-k)
 
   pub by_nets : command ≡ Nets → e ≡ unedited d t → e ≡ edit_of d t line command

@@ -1,4 +1,6 @@
 // One line of a script: what it does to a drawing known to be lawful, and what it prints into a lent buffer.
+#![tactic(auto)]
+
 ghost use Rattle.std.specs.Prelude.{◌≡◌};
 ghost use Rattle.sheet.specs.Rules.{Lawful};
 ghost use Rattle.redraw.specs.Calls.{add_component};
