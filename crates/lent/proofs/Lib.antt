@@ -1,7 +1,1 @@
 pub mod Noting
-pub mod Passed
-pub mod Params
-pub mod Locals
-pub mod Form
-pub mod Rest
-pub mod Thin

@@ -1,6 +1,8 @@
-// The public edits with a tally that the caller lends: it is brought up to date in its place after reply 0, and untouched otherwise. One
-// proof serves the five. Wrong answers that they rule out: coordinates in another order (arguments_swapped), the lent tally as it was
-// after reply 0 (never_written), and zeros in it after a refusal (written_after_a_refusal).
+// The public edits with a tally that the caller lends: it is brought up to date in its place after reply 0, and untouched otherwise. Wrong
+// answers that they rule out: coordinates in another order (arguments_swapped), the lent tally as it was after reply 0 (never_written), and
+// zeros in it after a refusal (written_after_a_refusal).
+#![tactic(auto, unfolding(crate::specs::Noting::noted))]
+
 ghost use Rattle.std.specs.Prelude.{◌≡◌};
 ghost use Rattle.redraw.specs.Calls;
 ghost use Rattle.schematic.specs.Calls.{checked};
