@@ -1,4 +1,6 @@
 // A script line as a call on any drawing: the line is read and the drawing checked before the edit is made.
+#![tactic(auto)]
+
 ghost use Rattle.std.specs.Prelude.{◌≡◌, length};
 ghost use Rattle.telling.specs.Told.{in_room, Answers};
 ghost use Rattle.step.specs.Steps.{step_of};
