@@ -11,7 +11,6 @@ use Rattle.sheet.specs.declared.Drawing.{Drawing}
 use Rattle.sheet.specs.Drawings.{Sheet, zero_component, wire_table, joint_table, lists_of, drawn}
 use Rattle.four.specs.Plans.{zero_part}
 use Rattle.four.specs.Plans as Four
-use Rattle.four.specs.Calls as FourCalls
 use Rattle.four.specs.Request1.{four, behind, four_drawing}
 use Rattle.four.proofs.Sheets.{fours, same_joints}
 

@@ -1,2 +1,3 @@
 // The drawing with an orientation of four numbers, as document 01 has it, and the proof that holding its number changes no call:
+#![tactic(auto)]
 // definitions and laws alone, no code.

@@ -1,1 +1,3 @@
+#![tactic(auto)]
+
 // Laws on lists; no function.
