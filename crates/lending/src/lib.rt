@@ -1,6 +1,7 @@
-// The caller's side of a lent tally: one of its own, 9 9 9 9, is lent to an edit and had back, as it was if the edit is refused. One
-// proof serves the five. Two wrong answers that they rule out: another tally lent (eights_lent), and a wire from its end to its start
-// (wire_backward).
+// The caller's side of a lent tally: one of its own, 9 9 9 9, is lent to an edit and had back, as it was if the edit is refused. Two wrong
+// answers that they rule out: another tally lent (eights_lent), and a wire from its end to its start (wire_backward).
+#![tactic(auto)]
+
 ghost use Rattle.std.specs.Prelude.{◌≡◌};
 ghost use Rattle.redraw.specs.Calls.{add_wire, add_component, delete_at, rotate_at, mirror_at};
 ghost use Rattle.schematic.specs.Calls.{checked};

@@ -1,4 +1,0 @@
-pub mod Handed
-pub mod Form
-pub mod Local
-pub mod Lender
