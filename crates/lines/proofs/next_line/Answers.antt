@@ -2,29 +2,17 @@
 use mathlib.Core.Path.{refl, sym, ◌∙◌}
 use native.Mathlib.Omega.{arith}
 use borrow.Author.Rules.{rules}
-use Rattle.lines.proofs.Holding.{feed_newline, feed_byte, feed_end}
+use Rattle.lines.proofs.Holding.{feed_byte, feed_end}
 use Rattle.lines.proofs.next_line.Goals as goal
 
 pub loop-i-init : goal.loop-i-init
 loop-i-init c = (refl, search rules, search rules, refl, omega arith)
 
-pub shape_of-held-then-b-eq10 : goal.shape_of-held-then-b-eq10
-shape_of-held-then-b-eq10 c = c.loop-i.invariant.3
-
-pub returns-then-b-eq10 : goal.returns-then-b-eq10
-returns-then-b-eq10 c =
-    let l = c.loop-i in
-    record {
-      told = sym (feed_newline _ _ l.i c.loop-i-test.true c.if-b-eq10.true) ∙ l.invariant.0;
-      within = (l.invariant.2, omega arith, omega arith);
-      long = l.invariant.3;
-    }
-
 pub loop-i-preserved : goal.loop-i-preserved
 loop-i-preserved c =
     let p = c.push-n in
     let l = c.loop-i in (
-      rw p.ensures.0 (sym (feed_byte _ _ l.i c.loop-i-test.true c.if-b-eq10.false) ∙ l.invariant.0),
+      rw p.ensures.0 (sym (feed_byte _ _ l.i c.loop-i-test.true (omega arith)) ∙ l.invariant.0),
       omega arith,
       p.ensures.1,
       p.auto.held ∙ l.invariant.3,
