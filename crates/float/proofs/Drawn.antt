@@ -5,7 +5,7 @@ use native.Mathlib.Nat.{le_trans, le_of_eq, lt_of_le_of_lt, mul_assoc, mul_comm,
 use native.Mathlib.Omega.{arith}
 use mathlib.Core.Bool.{Bool, not, ◌&&◌}
 use lib.IntN.{ℤ, pos, negsuc, neg_ℤ, nat_abs, ◌+ℤ◌, ◌*ℤ◌, zero-*ℤ}
-use lib.Dec.{T, leb, ltb, ltb→lt, leb→le, lit≤, lit<}
+use lib.Dec.{T, ltb, ltb→lt, leb→le, lit≤, lit<}
 use lib.Pow.{pow-add, pow_pos}
 use lib.Ieee.{Float, nan, inf, fin, binary32, add, up, down, round, of_int}
 use lib.Ieee.Exact.{round_exact}
@@ -73,12 +73,12 @@ unfolding tame exact
 number nan h = absurd h
 number (inf r) h = absurd h
 number (fin r m e) h =
-    let a = both_l (ltb m (2 ^ 24) && whole_units e) (leb (m * 2 ^ scale e) (256 * unit)) h in
+    let a = both_l (ltb m (2 ^ 24) && whole_units e) _ h in
     let w = both_r (ltb m (2 ^ 24)) (whole_units e) a in
     record {
       has = record { sign = r; size = m * 2 ^ scale e; value = (refl, in_units m e w); is = refl };
       good = good_at r m (scale e) (ltb→lt m (2 ^ 24) (both_l (ltb m (2 ^ 24)) (whole_units e) a))
-          (leb→le (m * 2 ^ scale e) (256 * unit) (both_r (ltb m (2 ^ 24) && whole_units e) (leb (m * 2 ^ scale e) (256 * unit)) h));
+          (leb→le (m * 2 ^ scale e) (256 * unit) (both_r (ltb m (2 ^ 24) && whole_units e) _ h));
     }
 
 -- ---- a row: both products and their sum
