@@ -25,9 +25,5 @@ pub returns-in-1 : goal.returns-in-1
 unfolding draws_of
 returns-in-1 c = let s = c.args in c.contact.ensures ∙ of_kind s.i s.a s.b c.in-1.is
 
-pub returns-in-2 : goal.returns-in-2
-unfolding draws_of
-returns-in-2 c = let s = c.args in c.coil.ensures ∙ of_kind s.i s.a s.b c.in-2.is
-
 pub returns-in_default : goal.returns-in_default
 returns-in_default c = let s = c.args in other s.kind s.i s.a s.b (λ e. omega arith) (λ e. omega arith) (λ e. omega arith)
