@@ -13,12 +13,12 @@ tell-requires c = refused_told c.refused.ensures (λ z. omega arith)
 pub returns-then-k-ne0 : goal.returns-then-k-ne0
 returns-then-k-ne0 c =
     let a = c.args in
-    let nine = unlawful a.d a.t a.line.now c.check-k.ensures (λ z. omega (arith, z, c.if-k-ne0.true)) c.read_line-command.result (sym c.readable.ensures ∙ c.if-readable.true) in
+    let nine = unlawful a.d a.t a.line.now c.check-k.ensures (λ z. omega arith) c.read_line-command.result (sym c.readable.ensures ∙ c.if-readable.true) in
     answers_line a.d a.t a.line.now c.read_line-command.ensures (c.refused.ensures ∙ nine) c.tell.ensures
 
 pub step_on-requires : goal.step_on-requires
 step_on-requires c =
-    lawful_found c.args.d c.check-k.ensures (owned _ _ c.well_formed.0.1.1) (omega (arith, c.if-k-ne0.false))
+    lawful_found c.args.d c.check-k.ensures (owned _ _ c.well_formed.0.1.1) (omega arith)
 
 pub returns-then-readable : goal.returns-then-readable
 returns-then-readable c = c.step_on.ensures.tells.answers
