@@ -19,7 +19,7 @@ use Rattle.sheet.specs.declared.Tally.{Tally}
 use Rattle.sheet.specs.Parts.{touches}
 use Rattle.sheet.specs.Drawings.{Sized, lists_of}
 use Rattle.sheet.specs.Rules.{Lawful}
-use Rattle.sheet.specs.Edits.{Outcome, wire, place_one, delete, mirror}
+use Rattle.sheet.specs.Edits.{Outcome, place_one}
 use Rattle.sheet.proofs.Parts.{touches_reads}
 use Rattle.sheet.proofs.Edits.{touched_reads}
 use Rattle.rules.specs.Verdict.{Touch}

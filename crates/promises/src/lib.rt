@@ -1,1 +1,2 @@
 // What callers may be told of the calls together, a page of statement for each request; no function.
+#![tactic(auto)]
