@@ -14,11 +14,8 @@ use Rattle.nets.proofs.number.Goals as goal
 pub loop-i-init : goal.loop-i-init
 loop-i-init c = (omega arith, passed_none (c.meet-count.ensures [] ranked_none))
 
--- the pad that the pass is at: its place, its joint and its net
+-- the pad that the pass is at: its joint and its net
 module _ (nets : List ℕ) (falls : Falling nets) (pads : Pads) (long : length pads.rows ≡ 384) (fit : PadsFit pads) (i : ℕ) (lt : i < pads.count) where
-  room : i < 384
-  room = omega (arith, fit.room)
-
   at-joint : JointNumber (get_or pads.rows i 0)
   at-joint = pad_joint pads long fit i lt
 
