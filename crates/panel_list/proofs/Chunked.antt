@@ -1,6 +1,6 @@
 -- For the loop that takes a chunk part by part: `start`, `on`, and `at_end`.
 use mathlib.Core.Path.{◌≡◌, refl, sym, ap, subst, ◌∙◌}
-use mathlib.Core.Bool.{Bool, true, false}
+use mathlib.Core.Bool.{Bool, false}
 use mathlib.Core.List.{List, [], ◌++◌, append_assoc, append-nil}
 use Prim.Native.Nat.{ℕ, ◌+◌, ◌-◌, ◌≤◌, ◌<◌}
 use native.Mathlib.Omega.{arith}
@@ -8,7 +8,7 @@ use lib.ListN.{length, take, drop, length-drop}
 use lib.Seq.{take_all, drop-drop}
 use Rattle.sheet.specs.declared.Drawing.{Drawing}
 use Rattle.sheet.specs.Rules.{Lawful}
-use Rattle.lines.specs.Runs.{ran, through_chunk}
+use Rattle.lines.specs.Runs.{through_chunk}
 use Rattle.lines.proofs.Runs.{run_end}
 use Rattle.step.specs.Scripts.{progress, and_then}
 use Rattle.panel_list.specs.declared.answers.Taken.{Taken}

@@ -9,11 +9,11 @@ use lib.ListN.{length, take}
 use Rattle.sheet.specs.declared.Drawing.{Drawing}
 use Rattle.sheet.specs.Drawings.{empty_sheet, drawn}
 use Rattle.sheet.specs.Rules.{Lawful}
-use Rattle.lines.specs.Runs.{ran, next, chunks, joined, finish}
+use Rattle.lines.specs.Runs.{ran, next, chunks, finish}
 use Rattle.lines.proofs.Runs.{chunks_more}
 use Rattle.telling.specs.Told.{printed}
 use Rattle.step.specs.Steps.{step_of}
-use Rattle.step.specs.Scripts.{Progress, progress, no_tally, start, and_then}
+use Rattle.step.specs.Scripts.{progress, no_tally, start, and_then}
 use Rattle.streams.specs.declared.output.Output.{Output}
 use Rattle.panel_list.specs.declared.Run.{Run}
 use Rattle.streams.specs.Sums.{sum_of}

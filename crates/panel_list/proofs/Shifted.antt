@@ -1,12 +1,12 @@
 -- What was printed before stands in front of what a chunk prints, and nothing else depends on it: `shifted`.
-use mathlib.Core.Path.{◌≡◌, refl, sym, ap, ◌∙◌}
+use mathlib.Core.Path.{◌≡◌, refl, ap, ◌∙◌}
 use mathlib.Core.Bool.{Bool, true, false, cond}
-use mathlib.Core.List.{List, [], ◌∷◌, ◌++◌, append_assoc, append-nil}
+use mathlib.Core.List.{List, [], ◌∷◌, ◌++◌, append_assoc}
 use Prim.Native.Nat.{ℕ}
 use lib.Dec.{eqb}
 use Rattle.lines.specs.Lines.{newline}
 use Rattle.lines.specs.Chunks.{hold}
-use Rattle.lines.specs.Runs.{Ran, ran, through_chunk, finish}
+use Rattle.lines.specs.Runs.{Ran, ran, through_chunk}
 use Rattle.sheet.specs.declared.Drawing.{Drawing}
 use Rattle.telling.specs.Told.{printed}
 use Rattle.step.specs.Steps.{step_of}

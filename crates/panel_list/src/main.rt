@@ -91,7 +91,8 @@ fn finish<R, W: Write, E: Write>(
         };
     }
     let count = run.count;
-    if count > 0 {
+    let begun = count > 0;
+    if begun {
         let d = run.drawing;
         let s = step_on(d, &held[..count], NO_TALLY, out);
         let used = s.length;

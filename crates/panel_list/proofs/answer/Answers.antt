@@ -1,5 +1,5 @@
 -- `panel_list::answer` meets its contract: part by part, what is left of the chunk is the whole, and what was printed is handed over.
-use Rattle.std.proofs.Common.{◌∙◌, rules, arith, refl, true, false}
+use Rattle.std.proofs.Common.{rules, arith, refl, true, false}
 use Rattle.panel_list.proofs.Chunked.{start, at_end, reached, on, less}
 use Rattle.panel_list.proofs.answer.Goals as goal
 
