@@ -15,7 +15,6 @@ use Rattle.loose_pads.specs.Counting.{loose_of}
 use Rattle.listing.specs.Listing.{list_of}
 use Rattle.text.specs.Text.{Put}
 use Rattle.text.proofs.Puts.{put_fits}
-use Rattle.dump.specs.Rows.{Puts}
 use Rattle.telling.specs.declared.Stepped.{Stepped}
 use Rattle.telling.specs.Told.{Answers, answered, loose_line, listedly}
 use Rattle.telling.specs.Fitting.{Tells}

@@ -1,4 +1,6 @@
 // What is printed of a file: the reply, and for 0 the drawing's rows, its wiring list and the number of its loose pads.
+#![tactic(auto)]
+
 ghost use Rattle.std.specs.Prelude.{◌≡◌, ◌≤◌, length};
 ghost use Rattle.sheet.specs.Rules.{Lawful};
 ghost use Rattle.shown.specs.Shown.{drawing_shown, shown_of, Shows};
