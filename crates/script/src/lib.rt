@@ -135,7 +135,7 @@ fn place_line(line: &[u8]) -> Command
 
 // What a line says. Two wrong answers that this rules out: reading a line of 81 bytes, and taking `n` with
 // bytes behind it (must-fail/ has more).
-#[tactic(auto, using(crate::proofs::Meaning::too_long))]
+#[tactic(auto, using(crate::proofs::Meaning::too_long, crate::proofs::Forms::line_nets))]
 pub fn read_line(line: &[u8]) -> Command
     ensures { result ≡ command_of line.now }
 {

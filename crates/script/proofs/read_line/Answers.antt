@@ -1,6 +1,6 @@
 -- `read_line` meets its contract: each way out is a form of `command_of`, by the line's length and first byte.
 use Rattle.std.proofs.Common.{◌∙◌, arith}
-use Rattle.script.proofs.Forms.{line_empty, line_place, line_nets, line_long_nets, line_three}
+use Rattle.script.proofs.Forms.{line_empty, line_place, line_long_nets, line_three}
 use Rattle.script.proofs.read_line.Goals as goal
 
 pub returns-then-line-eq0 : goal.returns-then-line-eq0
@@ -10,12 +10,9 @@ pub returns-then-letter-eq112 : goal.returns-then-letter-eq112
 returns-then-letter-eq112 c =
     c.place_line.ensures ∙ line_place _ (omega arith) c.if-line-eq0.false c.if-letter-eq112.true
 
-pub returns-then-line-eq1 : goal.returns-then-line-eq1
-returns-then-line-eq1 c = line_nets _ c.if-letter-eq110.true c.if-line-eq1.true
-
 pub returns-then-letter-eq110 : goal.returns-then-letter-eq110
 returns-then-letter-eq110 c =
-    line_long_nets _ (omega arith) c.if-line-eq0.false c.if-letter-eq110.true c.if-line-eq1.false
+    line_long_nets _ (omega arith) c.if-line-eq0.false c.if-letter-eq110.true (λ e. omega arith)
 
 pub returns : goal.returns
 returns c =
