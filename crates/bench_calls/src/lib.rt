@@ -1,4 +1,6 @@
 // What a timing calls: a drawing built by edits, and then one call so many times on that drawing.
+#![tactic(auto)]
+
 pub mod answers;
 pub mod edits;
 pub mod files;

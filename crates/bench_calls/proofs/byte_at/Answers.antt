@@ -1,0 +1,7 @@
+-- Past the end it is the default.
+use mathlib.Core.Path.{sym}
+use lib.ListN.{get_or-eq_default}
+use Rattle.bench_calls.proofs.byte_at.Goals as goal
+
+pub returns-else-i-bytes : goal.returns-else-i-bytes
+returns-else-i-bytes c = sym (get_or-eq_default c.args.bytes.now 0 c.if-i-bytes.false)
