@@ -4,3 +4,4 @@ pub mod Positions
 pub mod Marks
 pub mod Components
 pub mod Bound
+pub mod Ways

@@ -64,6 +64,7 @@ fn turned(d: Draw, n: u8, t: Vector2) -> Draw
 }
 
 // Shape i of a component, by the order of symbol.rs. a and b are a contact's A and B, and a is a coil's state.
+#[tactic(auto, using(crate::proofs::Ways::label_refused))]
 pub fn component(
     kind: u8,
     orientation: u8,
@@ -93,6 +94,7 @@ pub fn component(
 }
 
 // The mark of a wire.
+#[tactic(auto, using(crate::proofs::Ways::end_small, crate::proofs::Ways::drawn_down))]
 pub fn wire(vertical: bool, line: i32, start: i32, end: i32) -> Shape
     ensures { shape_answer result ≡ wire_shape vertical line start end }
 {
@@ -109,6 +111,7 @@ pub fn wire(vertical: bool, line: i32, start: i32, end: i32) -> Shape
 }
 
 // The mark of a joint with so many wire ends and pads.
+#[tactic(auto, using(crate::proofs::Ways::dotted, crate::proofs::Ways::ringed))]
 pub fn junction(x: i32, y: i32, count: u16) -> Shape
     ensures { shape_answer result ≡ junction_shape x y count }
 {

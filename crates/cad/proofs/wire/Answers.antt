@@ -1,8 +1,9 @@
 -- What the tests of the three coordinates tell, the test of start and end, and the points.
 use lib.Ieee.{of_bits, of_int}
+use borrow.Author.Rules.{rules}
 use Rattle.draw.specs.Symbols.{whole}
 use Rattle.cad.proofs.Positions.{tested, less_test, converted}
-use Rattle.cad.proofs.Marks.{wire_outside, small_three, reversed, downward, across}
+use Rattle.cad.proofs.Marks.{wire_outside, small_three, reversed, across}
 use Rattle.cad.proofs.wire.Goals as goal
 
 pub returns-then-not-on_sheet : goal.returns-then-not-on_sheet
@@ -27,22 +28,6 @@ convert-requires c =
     let k = small_three c.args.vertical L S E c.if-not-on_sheet.false in
     (k.0, k.1.0)
 
-pub convert-requires-then-vertical : goal.convert-requires-then-vertical
-convert-requires-then-vertical c =
-    let L = tested 6000 c.ranges.line c.on_sheet.ensures in
-    let S = tested 6000 c.ranges.start c.on_sheet-2.ensures in
-    let E = tested 6000 c.ranges.end c.on_sheet-3.ensures in
-    let k = small_three c.args.vertical L S E c.if-not-on_sheet.false in
-    (k.0, k.1.1)
-
-pub returns-then-vertical : goal.returns-then-vertical
-unfolding whole of_bits of_int
-returns-then-vertical c =
-    let L = tested 6000 c.ranges.line c.on_sheet.ensures in
-    let S = tested 6000 c.ranges.start c.on_sheet-2.ensures in
-    let E = tested 6000 c.ranges.end c.on_sheet-3.ensures in
-    downward c.args.vertical L S E c.if-not-on_sheet.false (less_test E S c.if-end-start.false) c.if-vertical.true (converted L S c.convert.ensures) (converted L E c.convert-then-vertical.ensures)
-
 pub convert-requires-2 : goal.convert-requires-2
 convert-requires-2 c =
     let L = tested 6000 c.ranges.line c.on_sheet.ensures in
@@ -65,4 +50,4 @@ returns c =
     let L = tested 6000 c.ranges.line c.on_sheet.ensures in
     let S = tested 6000 c.ranges.start c.on_sheet-2.ensures in
     let E = tested 6000 c.ranges.end c.on_sheet-3.ensures in
-    across c.args.vertical L S E c.if-not-on_sheet.false (less_test E S c.if-end-start.false) c.if-vertical.false (converted S L c.convert-2.ensures) (converted E L c.convert-3.ensures)
+    across c.args.vertical L S E c.if-not-on_sheet.false (less_test E S c.if-end-start.false) (search rules) (converted S L c.convert-2.ensures) (converted E L c.convert-3.ensures)
