@@ -133,8 +133,3 @@ module _ (minus : Bool) (l : List ℕ) (k : ℕ) where
   pub signed_none : 10 ≤ leading_digit (drop k l) → signed_numeral minus (drop k l) ≡ missing
   unfolding signed_numeral
   signed_none h = rw (whole_none (drop k l) h)
-
--- ---- what an answer r tells, where it is x
-
-pub told : {R A : Type 0} (tells : R → A) {r x : R} {a : A} → tells r ≡ a → r ≡ x → a ≡ tells x
-told tells e q = sym e ∙ ap tells q
