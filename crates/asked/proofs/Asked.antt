@@ -7,7 +7,9 @@ use borrow.Author.Tests.{eq-eqb, ne_eqb}
 use lib.Dec.{eqb}
 use lib.IntN.{ℤ}
 use lib.Signed.{le_z}
-use Rattle.edge.specs.Coordinates.{biased, ranged, to_ℕ, size_of}
+use mir.Syntax.{w32}
+use mir.Val.{SFits, to_z, of_z}
+use Rattle.edge.specs.Coordinates.{biased, ranged, biased_within, to_ℕ, size_of}
 use Rattle.symbol.specs.Symbols.{known_symbol}
 use Rattle.symbol.specs.Replies.{point_reply, wire_reply, pointer_reply, symbol_reply, component_reply}
 use Rattle.symbol.proofs.Replies.{three, five}
@@ -19,7 +21,7 @@ use Rattle.asked.specs.declared.AskedWire.{AskedWire}
 use Rattle.asked.specs.declared.AskedPart.{AskedPart}
 use Rattle.asked.specs.declared.AskedPointer.{AskedPointer}
 use Rattle.asked.specs.Asked.{no_wire, asked_wire, no_part, asked_part, no_pointer, asked_pointer}
-use Rattle.asked.proofs.Ranges.{Tells}
+use Rattle.asked.proofs.Ranges.{Tells, in_range, order_kept}
 
 module _ (v : Bool) (l s e : ℤ) {a b c : Found} (p : Tells (ranged 6000 l) (biased l) a) (q : Tells (ranged 6000 s) (biased s) b) (r : Tells (ranged 6000 e) (biased e) c) where
   tested : (a.within && (b.within && c.within)) ≡ (ranged 6000 l && (ranged 6000 s && ranged 6000 e))
@@ -99,3 +101,23 @@ module _ (x y n : ℤ) {a b c : Found} (p : Tells (ranged 6000 x) (biased x) a) 
         let s = both (ranged 6000 x) (ranged 6000 y) in_reach in
         let z : eqb (size_of n).reply 0 ≡ true = sym r.within_is ∙ u in
         rw (in_reach, z) (λ i. record { reply = 0; point = record { x = p.number s.0 i; y = q.number s.1 i }; size = r.number z i })
+
+-- ---- the same of what `edge` finds of the numbers as it gets them
+
+module _ (v : Bool) {l s e : ℤ} {a b c : Found} (p : SFits w32 l) (q : SFits w32 s) (r : SFits w32 e)
+    (f : a ≡ biased_within 6000 (to_z w32 (of_z w32 l))) (g : b ≡ biased_within 6000 (to_z w32 (of_z w32 s))) (h : c ≡ biased_within 6000 (to_z w32 (of_z w32 e)))
+    (t : (a.within && (b.within && c.within)) ≡ true) where
+  pub wire_taken : le_z (to_z w32 (of_z w32 s)) (to_z w32 (of_z w32 e)) ≡ true
+      → ◌≡◌ {A = AskedWire} (record { reply = 0; wire = record { vertical = v; line = a.at; start = b.at; end = c.at } }) (asked_wire v l s e)
+  wire_taken u = asked_wire_lem v l s e (in_range l p 6000 f) (in_range s q 6000 g) (in_range e r 6000 h) t (order_kept s e q r u)
+
+  pub wire_refused : le_z (to_z w32 (of_z w32 s)) (to_z w32 (of_z w32 e)) ≡ false → {w : AskedWire} → w ≡ no_wire 2 → w ≡ asked_wire v l s e
+  wire_refused u n = n ∙ backward_wire v l s e (in_range l p 6000 f) (in_range s q 6000 g) (in_range e r 6000 h) t (order_kept s e q r u)
+
+module _ (k o : ℕ) {x y : ℤ} (l : Label) {j : Bool} {a b : Found} {h : Held} (w : j ≡ known_symbol k o) (t : j ≡ true) (p : SFits w32 x) (q : SFits w32 y)
+    (f : a ≡ biased_within 5800 (to_z w32 (of_z w32 x))) (g : b ≡ biased_within 5800 (to_z w32 (of_z w32 y))) (u : (a.within && b.within) ≡ true) (e : h ≡ held_label l) where
+  pub part_taken : h.reply ≡ 0 → ◌≡◌ {A = AskedPart} (record { reply = 0; part = record { kind = k; orientation = o; x = a.at; y = b.at; label = h.bytes } }) (asked_part k o x y l)
+  part_taken z = asked_part_lem k o x y l w t (in_range x p 5800 f) (in_range y q 5800 g) u e z
+
+  pub part_refused : (h.reply ≡ 0 → ⊥) → {r : AskedPart} → r ≡ no_part 5 → r ≡ asked_part k o x y l
+  part_refused z n = n ∙ unlabelled_part k o x y l w t (in_range x p 5800 f) (in_range y q 5800 g) u e z

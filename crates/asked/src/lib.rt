@@ -62,6 +62,7 @@ fn no_wire(reply: u8) -> AskedWire
 
 // A wire from its coordinates: each in its range, else 1; the start not greater than the end, else 2. Two wrong answers that this rules
 // out: one with an end outside (one_end_outside_taken), and one that goes backward (backward_wire_taken).
+#[tactic(auto, using(crate::proofs::Asked::wire_taken, crate::proofs::Asked::wire_refused))]
 pub fn asked_wire(vertical: bool, line: i32, start: i32, end: i32) -> AskedWire
     ensures { result ≡ asked_wire vertical line start end }
 {
@@ -98,6 +99,7 @@ fn no_part(reply: u8) -> AskedPart
 
 // A component: a known kind and orientation, else 4; its position in its range, else 1; its label, else 5. Two wrong answers that this
 // rules out: one of a fourth kind (fourth_kind_taken), and one with a bad label (bad_label_taken).
+#[tactic(auto, using(crate::proofs::Asked::part_taken, crate::proofs::Asked::part_refused))]
 pub fn asked_part(kind: u8, orientation: u8, x: i32, y: i32, label: Label) -> AskedPart
     ensures { result ≡ asked_part kind orientation x y label }
 {
