@@ -8,27 +8,22 @@ use Rattle.text.proofs.put_signed.Goals as goal
 
 pub put_byte-next-requires : goal.put_byte-next-requires
 put_byte-next-requires c =
-    let a = c.before.before.before in
-    omega (arith, ap length (minus_text a.args.n a.ranges.n c.if-n-lt0.true _ refl))
+    omega (arith, ap length (minus_text c.args.n c.ranges.n c.if-n-lt0.true _ refl))
 
 pub put_decimal-requires : goal.put_decimal-requires
 put_decimal-requires c =
-    let a = c.before.before.before.before.before.before.before.before in
-    let text = minus_text a.args.n a.ranges.n c.if-n-lt0.true _ c.magnitude.ensures in
+    let text = minus_text c.args.n c.ranges.n c.if-n-lt0.true _ c.magnitude.ensures in
     omega (arith, c.put_byte-next.ensures.behind, ap length text)
 
 pub returns-then-n-lt0 : goal.returns-then-n-lt0
 returns-then-n-lt0 c =
-    let a = c.before.before.before.before.before.before.before.before.before.before.before in
-    let text = minus_text a.args.n a.ranges.n c.if-n-lt0.true _ c.magnitude.ensures in
+    let text = minus_text c.args.n c.ranges.n c.if-n-lt0.true _ c.magnitude.ensures in
     put_as (sym text) (put_then c.put_byte-next.ensures c.put_decimal.ensures)
 
 pub put_decimal-requires-2 : goal.put_decimal-requires-2
 put_decimal-requires-2 c =
-    let a = c.before.before.before.before in
-    omega (arith, ap length (plain_text a.args.n a.ranges.n c.if-n-lt0.false _ c.magnitude-2.ensures))
+    omega (arith, ap length (plain_text c.args.n c.ranges.n c.if-n-lt0.false _ c.magnitude-2.ensures))
 
 pub returns : goal.returns
 returns c =
-    let a = c.before.before.before.before.before.before.before in
-    put_as (sym (plain_text a.args.n a.ranges.n c.if-n-lt0.false _ c.magnitude-2.ensures)) c.put_decimal-2.ensures
+    put_as (sym (plain_text c.args.n c.ranges.n c.if-n-lt0.false _ c.magnitude-2.ensures)) c.put_decimal-2.ensures
