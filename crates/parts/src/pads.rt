@@ -43,6 +43,7 @@ pub fn all_pads(cs: Components) -> Points
 }
 
 // How many pads a component of the kind has. Not three for a coil and one for a contact (coil_with_three_pads).
+#[tactic(auto, using(crate::proofs::Listing::other_kinds))]
 pub fn pads_of_kind(kind: u8) -> usize
     ensures { (result ≡ length (pads_at kind)) × (result ≤ 3) }
 {
