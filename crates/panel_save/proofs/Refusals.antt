@@ -1,13 +1,13 @@
 -- What is told of a line: its number, and nothing or a line that was made in a buffer of its own.
-use mathlib.Core.Path.{◌≡◌, sym, ap, ◌∙◌}
+use mathlib.Core.Path.{◌≡◌, ap, ◌∙◌}
 use mathlib.Core.List.{List, ◌++◌}
 use Prim.Native.Nat.{ℕ, ◌+◌, ◌<◌, ◌≤◌}
 use native.Mathlib.Omega.{arith}
 use lib.ListN.{length, take, drop}
-use lib.Seq.{length-take-le, take_at}
+use lib.Seq.{take_at}
 use borrow.Author.Tests.{lt-ltb, le-ltb, eq-eqb, ne_eqb}
 use Rattle.text.specs.Text.{Put, decimal_of}
-use Rattle.text.proofs.Puts.{put_whole, put_length}
+use Rattle.text.proofs.Puts.{put_whole}
 use Rattle.script.specs.Grammar.{bytes}
 use Rattle.telling.specs.Told.{numbered}
 use Rattle.streams.specs.Sums.{sum_of}
@@ -32,8 +32,5 @@ told_line n reply f = rw (ne_eqb reply 0 f)
 -- ---- in a buffer of 40 bytes
 
 module _ {own bs new : List ℕ} {k : ℕ} (p : Put own 0 bs new k) (few : k ≤ 40) (forty : length own ≡ 40) where
-  pub line_long : k ≡ length (take k new)
-  line_long = sym (length-take-le k new (omega (arith, put_length p, forty)))
-
   pub line_is : take k new ≡ bs
   line_is = ap (take k) (put_whole p (omega (arith, forty))) ∙ take_at bs (drop k own) k (omega (arith, p.behind))
