@@ -39,6 +39,7 @@ pub fn put_bytes(out: &mut [u8], at: usize, bytes: &[u8]) -> usize
 }
 
 // A number in decimal. The number falls at each call.
+#[tactic(auto, using(crate::proofs::Decimals::decimal_digit))]
 pub fn put_decimal(out: &mut [u8], at: usize, n: u32) -> usize
     requires { Room at (decimal_of n) }
     ensures { Put out.old at (decimal_of n) out.new result }
