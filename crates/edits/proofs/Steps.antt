@@ -26,6 +26,7 @@ use Rattle.wires.specs.Tables.{Tabled, Grows, Splits}
 use Rattle.wires.proofs.Growing.{grows_room, grows_as}
 use Rattle.parts.specs.Tables.{TabledParts, PartsFit}
 use Rattle.joints.specs.Tables.{sheet_of, Sound}
+use Rattle.edits.specs.declared.Made.{Made}
 use Rattle.edits.specs.Making.{quiet, no_room, made, altered, placed_again}
 use Rattle.edits.proofs.Making.{full_parts, full_wires}
 
@@ -62,6 +63,15 @@ module _ (c : Component) {ws : Wires} {cs : Components} (s : Sound ws cs) where
   pub placed_parts : {t : Components} → TabledParts (insert ahead c (component_rows cs)) t → TabledParts (place_one c (sheet_of ws cs)).parts t
   unfolding place_one
   placed_parts h = h
+
+-- each way out of `place`
+module _ (c : Component) {ws : Wires} {cs : Components} (s : Sound ws cs) where
+  pub place_no_parts : 128 ≤ cs.count → {m : Made} → m ≡ no_room 7 → m ≡ made (quiet (place_one c (sheet_of ws cs)))
+  place_no_parts h e = e ∙ placed_full c s h
+
+  pub place_no_wires : {h : Grown} → cs.count < 128 → Splits (pads c) (record { full = false; table = ws }) h → h.full ≡ true
+      → {m : Made} → m ≡ no_room 11 → m ≡ made (quiet (place_one c (sheet_of ws cs)))
+  place_no_wires b k f e = e ∙ placed_split c s b k f
 
 -- ---- delete
 

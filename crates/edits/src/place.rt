@@ -25,6 +25,7 @@ pub(crate) fn split_at_pads(g: Grown, c: Component) -> Grown
 
 // The component goes in, whether it touches another or not: who places it asks first. Wrong answers that this rules out: the wires under its
 // pads left whole (pads_do_not_split), no room for the 128th (seven_one_component_early), 11 where 7 applies too (eleven_before_seven).
+#[tactic(auto, using(crate::proofs::Steps::place_no_parts))]
 pub fn place(ws: Wires, cs: Components, c: Component) -> Made
     requires { Sound ws cs × PartFits c }
     ensures { result ≡ made (quiet (Edits.place_one c (sheet_of ws cs))) }
