@@ -4,6 +4,8 @@ use mathlib.Core.Bool.{Bool, true, false, cond}
 use mathlib.Core.Path.{◌≡◌, refl, sym, subst, ◌∙◌}
 use borrow.Author.Tests.{eq-eqb, ne_eqb}
 use lib.IntN.{ℤ}
+use mir.Syntax.{w32}
+use mir.Val.{SFits, to_z, of_z}
 use Rattle.lists.specs.Lists.{any}
 use Rattle.lists.specs.First.{first_row}
 use Rattle.lists.proofs.Tests.{Reads, pass, fail, eqb_reads}
@@ -20,6 +22,7 @@ use Rattle.asked.specs.declared.AskedWire.{AskedWire}
 use Rattle.asked.specs.declared.AskedPart.{AskedPart}
 use Rattle.asked.specs.declared.AskedPointer.{AskedPointer}
 use Rattle.asked.specs.Asked.{wire_at, no_wire, asked_wire, component_at, no_part, asked_part, point_at, no_pointer, asked_pointer}
+use Rattle.asked.proofs.Handed.{handed_two, handed_three}
 use Rattle.edits.specs.Making.{quiet}
 use Rattle.redraw.specs.declared.Edited.{Edited}
 use Rattle.redraw.specs.Calls.{refused_at, refused, refused_by, refused_unless, refused_touching, edited, add_wire, add_component, pointed}
@@ -88,3 +91,14 @@ pointer_decides d x y n t edit q = subst (λ (a : AskedPointer). Decides d t a.r
     go : {m : ℕ} {b : Bool} → Reads (m ≡ 0) b → Decides d t (cond b P (no_pointer m)).reply (X (cond b P (no_pointer m))) (refused_unless b m d t (X P))
     go (pass z) = made
     go (fail f) = not_made f
+
+-- ---- refusals, of numbers as `asked` gets them
+
+module _ (d : Drawing) (t : Tally) {r : Edited} where
+  pub wire_not_asked : (v : Bool) {l s e : ℤ} {a : AskedWire} → SFits w32 l → SFits w32 s → SFits w32 e
+      → a ≡ asked_wire v (to_z w32 (of_z w32 l)) (to_z w32 (of_z w32 s)) (to_z w32 (of_z w32 e)) → (a.reply ≡ 0 → ⊥) → r ≡ refused a.reply d t → r ≡ add_wire d v l s e t
+  wire_not_asked v {l} {s} {e} p q u f g h = h ∙ (wire_decides d v l s e t (f ∙ handed_three (asked_wire v) l s e p q u)).refuses g
+
+  pub part_not_asked : (k o : ℕ) {x y : ℤ} (l : Label) {a : AskedPart} → SFits w32 x → SFits w32 y
+      → a ≡ asked_part k o (to_z w32 (of_z w32 x)) (to_z w32 (of_z w32 y)) l → (a.reply ≡ 0 → ⊥) → r ≡ refused a.reply d t → r ≡ add_component d k o x y l t
+  part_not_asked k o {x} {y} l p q f g h = h ∙ (part_decides d k o x y l t (f ∙ handed_two (λ x y. asked_part k o x y l) x y p q)).refuses g

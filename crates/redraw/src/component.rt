@@ -13,6 +13,7 @@ use sheet::{Drawing, Tally};
 // "Place.", and for 6 the first row touched. Wrong answers that this rules out: a component acknowledged and not placed
 // (component_only_acknowledged), 7 for one whose box shares a point with a placed one (six_told_as_seven), row 1 for the first
 // (first_row_is_one).
+#[tactic(auto, using(crate::proofs::Asking::part_not_asked))]
 pub fn add_component_on(
     d: Drawing,
     kind: u8,

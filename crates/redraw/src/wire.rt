@@ -10,6 +10,7 @@ use sheet::{Drawing, Tally};
 
 // "Wire."; vertical: line is its x, start and end are its y; else the other way round. Two wrong answers that this rules out: a wire
 // acknowledged and not drawn (wire_only_acknowledged), and the tally received after reply 0 (tally_untouched).
+#[tactic(auto, using(crate::proofs::Asking::wire_not_asked))]
 pub fn add_wire_on(d: Drawing, vertical: bool, line: i32, start: i32, end: i32, t: Tally) -> Edited
     requires { Lawful d }
     ensures { result ≡ Calls.add_wire d vertical line start end t }

@@ -17,13 +17,9 @@ use Rattle.redraw.proofs.Finishing.{made_sound}
 use Rattle.redraw.proofs.Keeping.{lawful_sound, some_touched, none_touched, placed_good}
 use Rattle.redraw.proofs.component.add_component_on.Goals as goal
 
-pub returns-then-a-ne0 : goal.returns-then-a-ne0
-returns-then-a-ne0 c =
-    c.refused.ensures ∙ (part_decides c.args.d c.args.kind c.args.orientation _ _ c.args.label c.args.t (c.asked_part-a.ensures ∙ handed_two (λ x y. asked_part c.args.kind c.args.orientation x y c.args.label) _ _ c.ranges.x c.ranges.y)).refuses c.if-a-ne0.true
-
 pub first_touched-row-requires : goal.first_touched-row-requires
 first_touched-row-requires c =
-    ((lawful_sound c.requires (owned _ _ c.well_formed.0.1.1)).fits, (part_fits _ _ _ _ _ (c.asked_part-a.ensures ∙ handed_two (λ x y. asked_part c.args.kind c.args.orientation x y c.args.label) _ _ c.ranges.x c.ranges.y) c.if-a-ne0.false))
+    ((lawful_sound c.requires (owned _ _ c.well_formed.0.1.1)).fits, (part_fits _ _ _ _ _ (c.asked_part-a.ensures ∙ handed_two (λ x y. asked_part c.args.kind c.args.orientation x y c.args.label) _ _ c.ranges.x c.ranges.y) (omega arith)))
 
 pub overflow_cast-e : goal.overflow_cast-e
 overflow_cast-e c = omega (arith, c.requires.rule1.component_room)
@@ -36,17 +32,17 @@ pub returns-then-row-cs : goal.returns-then-row-cs
 returns-then-row-cs c =
     let a = c.asked_part-a.result in
     let q = c.first_touched-row.ensures in
-    told c.refused-e.ensures ∙ touched_refused _ _ a q (some_touched c.requires (owned _ _ c.well_formed.0.1.1) a.part q c.if-row-cs.true) ∙ (part_decides c.args.d c.args.kind c.args.orientation _ _ c.args.label c.args.t (c.asked_part-a.ensures ∙ handed_two (λ x y. asked_part c.args.kind c.args.orientation x y c.args.label) _ _ c.ranges.x c.ranges.y)).makes c.if-a-ne0.false
+    told c.refused-e.ensures ∙ touched_refused _ _ a q (some_touched c.requires (owned _ _ c.well_formed.0.1.1) a.part q c.if-row-cs.true) ∙ (part_decides c.args.d c.args.kind c.args.orientation _ _ c.args.label c.args.t (c.asked_part-a.ensures ∙ handed_two (λ x y. asked_part c.args.kind c.args.orientation x y c.args.label) _ _ c.ranges.x c.ranges.y)).makes (omega arith)
 
 pub place-e-requires : goal.place-e-requires
 place-e-requires c =
-    (lawful_sound c.requires (owned _ _ c.well_formed.0.1.1), (part_fits _ _ _ _ _ (c.asked_part-a.ensures ∙ handed_two (λ x y. asked_part c.args.kind c.args.orientation x y c.args.label) _ _ c.ranges.x c.ranges.y) c.if-a-ne0.false))
+    (lawful_sound c.requires (owned _ _ c.well_formed.0.1.1), (part_fits _ _ _ _ _ (c.asked_part-a.ensures ∙ handed_two (λ x y. asked_part c.args.kind c.args.orientation x y c.args.label) _ _ c.ranges.x c.ranges.y) (omega arith)))
 
 pub finished-requires : goal.finished-requires
 finished-requires c =
-    made_sound _ (placed_good _ (lists_of c.args.d) (part_fits _ _ _ _ _ (c.asked_part-a.ensures ∙ handed_two (λ x y. asked_part c.args.kind c.args.orientation x y c.args.label) _ _ c.ranges.x c.ranges.y) c.if-a-ne0.false) (lawful_good c.requires) (none_touched c.requires (owned _ _ c.well_formed.0.1.1) _ c.first_touched-row.ensures c.if-row-cs.false)).fits c.place-e.ensures
+    made_sound _ (placed_good _ (lists_of c.args.d) (part_fits _ _ _ _ _ (c.asked_part-a.ensures ∙ handed_two (λ x y. asked_part c.args.kind c.args.orientation x y c.args.label) _ _ c.ranges.x c.ranges.y) (omega arith)) (lawful_good c.requires) (none_touched c.requires (owned _ _ c.well_formed.0.1.1) _ c.first_touched-row.ensures c.if-row-cs.false)).fits c.place-e.ensures
 
 pub returns : goal.returns
 returns c =
     let a = c.asked_part-a.result in
-    c.finished.ensures _ c.place-e.ensures ∙ untouched_edited _ _ a (none_touched c.requires (owned _ _ c.well_formed.0.1.1) a.part c.first_touched-row.ensures c.if-row-cs.false) ∙ (part_decides c.args.d c.args.kind c.args.orientation _ _ c.args.label c.args.t (c.asked_part-a.ensures ∙ handed_two (λ x y. asked_part c.args.kind c.args.orientation x y c.args.label) _ _ c.ranges.x c.ranges.y)).makes c.if-a-ne0.false
+    c.finished.ensures _ c.place-e.ensures ∙ untouched_edited _ _ a (none_touched c.requires (owned _ _ c.well_formed.0.1.1) a.part c.first_touched-row.ensures c.if-row-cs.false) ∙ (part_decides c.args.d c.args.kind c.args.orientation _ _ c.args.label c.args.t (c.asked_part-a.ensures ∙ handed_two (λ x y. asked_part c.args.kind c.args.orientation x y c.args.label) _ _ c.ranges.x c.ranges.y)).makes (omega arith)

@@ -1,4 +1,5 @@
 -- What is asked is refused, or the wire is drawn.
+use native.Mathlib.Omega.{arith}
 use mathlib.Core.Path.{◌∙◌}
 use Rattle.sheet.specs.Drawings.{lists_of}
 use Rattle.sheet.proofs.Owned.{owned}
@@ -12,18 +13,14 @@ use Rattle.redraw.proofs.Finishing.{made_sound}
 use Rattle.redraw.proofs.Keeping.{lawful_sound}
 use Rattle.redraw.proofs.wire.add_wire_on.Goals as goal
 
-pub returns-then-a-ne0 : goal.returns-then-a-ne0
-returns-then-a-ne0 c =
-    c.refused.ensures ∙ (wire_decides c.args.d c.args.vertical _ _ _ c.args.t (c.asked_wire-a.ensures ∙ handed_three (asked_wire c.args.vertical) _ _ _ c.ranges.line c.ranges.start c.ranges.end)).refuses c.if-a-ne0.true
-
 pub draw-e-requires : goal.draw-e-requires
 draw-e-requires c =
-    (lawful_sound c.requires (owned _ _ c.well_formed.0.1.1), (wire_drawable _ _ _ _ (c.asked_wire-a.ensures ∙ handed_three (asked_wire c.args.vertical) _ _ _ c.ranges.line c.ranges.start c.ranges.end) c.if-a-ne0.false).end)
+    (lawful_sound c.requires (owned _ _ c.well_formed.0.1.1), (wire_drawable _ _ _ _ (c.asked_wire-a.ensures ∙ handed_three (asked_wire c.args.vertical) _ _ _ c.ranges.line c.ranges.start c.ranges.end) (omega arith)).end)
 
 pub finished-requires : goal.finished-requires
 finished-requires c =
-    made_sound _ (wire_good _ (lists_of c.args.d) (wire_drawable _ _ _ _ (c.asked_wire-a.ensures ∙ handed_three (asked_wire c.args.vertical) _ _ _ c.ranges.line c.ranges.start c.ranges.end) c.if-a-ne0.false) (lawful_good c.requires)).fits c.draw-e.ensures
+    made_sound _ (wire_good _ (lists_of c.args.d) (wire_drawable _ _ _ _ (c.asked_wire-a.ensures ∙ handed_three (asked_wire c.args.vertical) _ _ _ c.ranges.line c.ranges.start c.ranges.end) (omega arith)) (lawful_good c.requires)).fits c.draw-e.ensures
 
 pub returns : goal.returns
 returns c =
-    c.finished.ensures _ c.draw-e.ensures ∙ (wire_decides c.args.d c.args.vertical _ _ _ c.args.t (c.asked_wire-a.ensures ∙ handed_three (asked_wire c.args.vertical) _ _ _ c.ranges.line c.ranges.start c.ranges.end)).makes c.if-a-ne0.false
+    c.finished.ensures _ c.draw-e.ensures ∙ (wire_decides c.args.d c.args.vertical _ _ _ c.args.t (c.asked_wire-a.ensures ∙ handed_three (asked_wire c.args.vertical) _ _ _ c.ranges.line c.ranges.start c.ranges.end)).makes (omega arith)
