@@ -1,5 +1,5 @@
 -- `panel_files::answer_all` meets its contract: the sum of what was printed so far is that of the files so far.
-use Rattle.std.proofs.Common.{rules, arith, ap, ◌∙◌}
+use Rattle.std.proofs.Common.{rules, ap, ◌∙◌}
 use Rattle.streams.specs.Sums.{sum_of}
 use Rattle.panel_files.proofs.Summed.{summed_none, summed_next}
 use Rattle.panel_files.proofs.answer_all.Goals as goal
