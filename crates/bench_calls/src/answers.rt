@@ -4,7 +4,7 @@ ghost use Rattle.sheet.specs.Rules.{Lawful};
 ghost use Rattle.rules.specs.Check.{check_of};
 ghost use Rattle.bench_calls.specs.Timed.{even_tally, edit_answer, list_answer, timed_loose, timed_answer};
 
-use crate::edits::{edit_checked, edit_on};
+use crate::editing::{edit_checked, edit_on};
 use crate::files::file_answer;
 use crate::tables::table_answer;
 use netlist::{build_netlist, loose, loose_on, write_list_on};

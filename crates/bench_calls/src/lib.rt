@@ -2,7 +2,7 @@
 #![tactic(auto)]
 
 pub mod answers;
-pub mod edits;
+pub mod editing;
 pub mod files;
 pub mod tables;
 
@@ -11,7 +11,7 @@ ghost use Rattle.sheet.specs.Rules.{Lawful};
 ghost use Rattle.bench_calls.specs.Timed.{after_edit, built_by, timed_answer, again};
 
 use crate::answers::answer;
-use crate::edits::edit_on;
+use crate::editing::edit_on;
 use empty::empty_drawing;
 use sheet::{Drawing, Tally};
 

@@ -15,7 +15,7 @@ ghost use Rattle.net_numbers.specs.Netted.{net_numbers};
 ghost use Rattle.parts.specs.Tables.{PartsFit, TabledParts};
 ghost use Rattle.bench_calls.specs.Tables.{grown_rows, line_at, x_at, pointed_answer, laid_answer, inserted_answer, whole_answer, table_answer};
 
-use crate::edits::k_label;
+use crate::editing::k_label;
 use asked::{asked_part, asked_pointer, asked_wire};
 use joints::count_joints;
 use net_numbers::pad_numbers;

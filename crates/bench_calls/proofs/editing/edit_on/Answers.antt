@@ -5,7 +5,7 @@ use Rattle.asked.proofs.Handed.{handed_two, handed_three}
 use Rattle.redraw.specs.Calls.{add_wire, delete_at, rotate_at, mirror_at}
 use Rattle.bench_calls.specs.Numbered.{place_by}
 use Rattle.bench_calls.proofs.Numbers.{is_place, is_across, is_upright, is_delete, is_turn, is_mirror}
-use Rattle.bench_calls.proofs.edits.edit_on.Goals as goal
+use Rattle.bench_calls.proofs.editing.edit_on.Goals as goal
 
 pub returns-then-what-ge8 : goal.returns-then-what-ge8
 returns-then-what-ge8 c =

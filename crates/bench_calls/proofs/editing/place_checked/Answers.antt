@@ -5,7 +5,7 @@ use Rattle.asked.proofs.Handed.{handed_two}
 use Rattle.redraw.specs.Calls.{add_component}
 use Rattle.schematic.specs.Calls.{checked}
 use Rattle.bench_calls.proofs.Numbers.{placed}
-use Rattle.bench_calls.proofs.edits.place_checked.Goals as goal
+use Rattle.bench_calls.proofs.editing.place_checked.Goals as goal
 
 pub returns : goal.returns
 returns c =

@@ -4,7 +4,7 @@ use mathlib.Core.Path.{◌∙◌}
 use Rattle.asked.proofs.Handed.{handed_two}
 use Rattle.redraw.specs.Calls.{add_component}
 use Rattle.bench_calls.proofs.Numbers.{placed}
-use Rattle.bench_calls.proofs.edits.place_on.Goals as goal
+use Rattle.bench_calls.proofs.editing.place_on.Goals as goal
 
 pub returns : goal.returns
 returns c =
