@@ -1,8 +1,8 @@
-//! Links the proved calls: crates/bench_calls_c/out/libbench_calls_c.a, which `rt lib` in crates/bench_calls_c writes.
+//! Links the proved calls: target/staticlib/libbench_calls.a, which bench/run makes of the crate bench_calls_c.
 
 fn main() {
-    let folder = concat!(env!("CARGO_MANIFEST_DIR"), "/../crates/bench_calls_c/out");
+    let folder = concat!(env!("CARGO_MANIFEST_DIR"), "/../target/staticlib");
     println!("cargo:rustc-link-search=native={folder}");
-    println!("cargo:rustc-link-lib=static=bench_calls_c");
-    println!("cargo:rerun-if-changed={folder}/libbench_calls_c.a");
+    println!("cargo:rustc-link-lib=static=bench_calls");
+    println!("cargo:rerun-if-changed={folder}/libbench_calls.a");
 }
