@@ -3,7 +3,8 @@
 
 pub mod output;
 
-ghost use Rattle.std.specs.Prelude.{◌≡◌, length};
+ghost use Rattle.std.specs.Prelude.{◌≡◌, cond, length};
+ghost use Rattle.std.specs.Process.{exit_status};
 ghost use Rattle.streams.specs.Reads.{Brings, Takes, Fills, TakesAll};
 
 pub use output::{Output, tell_block, write_block};
@@ -28,7 +29,9 @@ pub fn standard(rt: &HostRuntime) -> Streams<Stdin, Stdout, Stderr> {
 }
 
 // How a program ends: with status 1 if a read or a write failed.
-pub fn ended(failed: bool) -> ExitCode {
+pub fn ended(failed: bool) -> ExitCode
+    ensures { exit_status result ≡ cond failed 1 0 }
+{
     if failed {
         ExitCode::FAILURE
     } else {
