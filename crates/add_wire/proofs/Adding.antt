@@ -6,7 +6,7 @@ use mathlib.Core.Path.{◌≡◌, refl, sym, ap, ◌∙◌, subst}
 use mathlib.Core.List.{List, [], ◌∷◌, ◌++◌, append-nil, append_assoc}
 use mathlib.Core.Bool.{Bool, true, false, ◌&&◌}
 use lib.ListN.{length, get_or, take, drop, set, length-append}
-use Rattle.lists.specs.Lists.{gather}
+use Rattle.std.specs.List.{flat_map}
 use Rattle.lists.proofs.Tables.{holds_as, holds_push}
 use Rattle.lists.proofs.Walks.{Rest, rest_at, rest_next, rest_end, rows_from_lem}
 use Rattle.sheet.specs.declared.Wire.{Wire}
@@ -54,28 +54,25 @@ done_over {out = out} {done} {whole} vs rest d e f h = record {
 pub record Adding (g : Grown) (f : Wire → List Wire) (rows : List Wire) (to i : ℕ) (whole : List Wire) (out : Wires) : Type 0 where
   pub done : List Wire
   pub behind : Done g out done
-  pub rest : Rest (λ xs. done ++ gather f xs) rows to i whole
+  pub rest : Rest (λ xs. done ++ flat_map f xs) rows to i whole
 
-pub add_start : (g : Grown) (f : Wire → List Wire) (rows : List Wire) (from to : ℕ) → g.full ≡ false → Adding g f rows to from (gather f (drop from (take to rows))) g.table
-add_start g f rows from to e = record { done = []; behind = done_none g e; rest = rest_at (gather f) rows to from }
+pub add_start : (g : Grown) (f : Wire → List Wire) (rows : List Wire) (from to : ℕ) → g.full ≡ false → Adding g f rows to from (flat_map f (drop from (take to rows))) g.table
+add_start g f rows from to e = record { done = []; behind = done_none g e; rest = rest_at (flat_map f) rows to from }
 
 module _ {g : Grown} {f : Wire → List Wire} {rows : List Wire} {to i : ℕ} {whole : List Wire} {out : Wires} where
   pub add_next : {vs : List Wire} {next : Wires} (d : Wire) → Adding g f rows to i whole out → f (get_or rows i d) ≡ vs → ((xs : List Wire) → Tabled xs out → Tabled (xs ++ vs) next) → i < to → to ≤ length rows → Adding g f rows to (i + 1) whole next
-  unfolding gather
   add_next {vs} d a e h l k = record {
     done = a.done ++ vs;
     behind = done_more a.behind h;
-    rest = rest_next d a.rest (λ xs. ap (λ (v : List Wire). a.done ++ (v ++ gather f xs)) e ∙ sym (append_assoc a.done vs (gather f xs))) l k;
+    rest = rest_next d a.rest (λ xs. ap (λ (v : List Wire). a.done ++ (v ++ flat_map f xs)) e ∙ sym (append_assoc a.done vs (flat_map f xs))) l k;
   }
 
   pub add_over : {vs : List Wire} {r : Grown} (d : Wire) → Adding g f rows to i whole out → f (get_or rows i d) ≡ vs → ((l : List Wire) → 512 < length l → Grows l r) → 512 < out.count + length vs → i < to → to ≤ length rows → Adds whole g r
-  unfolding gather
   add_over {vs} d a e h o l k =
-      done_over vs (gather f (drop (i + 1) (take to rows))) a.behind
-      (sym (a.rest.same ∙ ap (λ (xs : List Wire). a.done ++ gather f xs) (rows_from_lem rows to i d l k) ∙ ap (λ (v : List Wire). a.done ++ (v ++ gather f (drop (i + 1) (take to rows)))) e)) h o
+      done_over vs (flat_map f (drop (i + 1) (take to rows))) a.behind
+      (sym (a.rest.same ∙ ap (λ (xs : List Wire). a.done ++ flat_map f xs) (rows_from_lem rows to i d l k) ∙ ap (λ (v : List Wire). a.done ++ (v ++ flat_map f (drop (i + 1) (take to rows)))) e)) h o
 
   pub add_end : Adding g f rows to i whole out → to ≤ i → to ≤ length rows → Adds whole g (record { full = false; table = out })
-  unfolding gather
   add_end a l k = done_all a.behind (sym (append-nil a.done) ∙ rest_end a.rest l k)
 
 -- ---- the run: before place a, up to place e, w is what is left of it

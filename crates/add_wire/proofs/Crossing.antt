@@ -11,7 +11,8 @@ use mathlib.Core.Logic.{⊎_elim}
 use mathlib.Core.Bool.{Bool, true, false, ◌&&◌, cond, not, beq}
 use lib.ListN.{get_or}
 use Rattle.symbol.specs.declared.Point.{Point}
-use Rattle.lists.specs.Lists.{◌∈◌, gather}
+use Rattle.lists.specs.Lists.{◌∈◌}
+use Rattle.std.specs.List.{flat_map}
 use Rattle.lists.proofs.Tests.{Reads, pass, fail, decide, choose, reads_as, and_reads, eqb_reads, same_or_turned}
 use Rattle.lists.proofs.Lists.{any_reads, in_cons, in_one}
 use Rattle.sheet.specs.declared.Wire.{Wire}
@@ -60,11 +61,11 @@ module _ (n w : Wire) where
       back q m i = let e = same_place q m (record { line = i.line; from = omega (arith, i.from, x.from); to = i.to }) in omega (arith, i.from)
 
   split_here : Inside (crossing n w) w → split_at (crossing n w) (w ∷ []) ≡ left (crossing n w) w ∷ right (crossing n w) w ∷ []
-  unfolding split_at gather split_one
+  unfolding split_at split_one
   split_here x = choose (inside_reads (crossing n w) w) (λ l. l ++ [] ≡ left (crossing n w) w ∷ right (crossing n w) w ∷ []) (λ p. refl) (λ f. absurd (f x))
 
   split_not : (q : Point) → (Inside q w → ⊥) → split_at q (w ∷ []) ≡ w ∷ []
-  unfolding split_at gather
+  unfolding split_at
   split_not q f = ap (λ (l : List Wire). l ++ []) (one_none q f)
 
   -- where the crossing is one of the points

@@ -8,7 +8,8 @@ use lib.Dec.{eqb}
 use lib.ListN.{get_or, take, drop, length-take}
 use lib.Seq.{take-take}
 use Rattle.symbol.specs.declared.Point.{Point}
-use Rattle.lists.specs.Lists.{◌∈◌, any, keep, gather, insert}
+use Rattle.lists.specs.Lists.{◌∈◌, insert}
+use Rattle.std.specs.List.{list_any, filter, flat_map}
 use Rattle.lists.specs.Span.{span}
 use Rattle.lists.proofs.Lists.{keep_in}
 use Rattle.lists.proofs.Appends.{keep_append, gather_append, length_insert}
@@ -51,11 +52,11 @@ rest_over n ws ps o e = still_full _ o e (omega (arith, split_all_no_shorter (st
 -- ---- wires split at many points
 
 -- each by itself
-split_each : (qs : List Point) (ws : List Wire) → split_all qs ws ≡ gather (λ w. split_all qs (w ∷ [])) ws
-unfolding split_all split_at gather
+split_each : (qs : List Point) (ws : List Wire) → split_all qs ws ≡ flat_map (λ w. split_all qs (w ∷ [])) ws
+unfolding split_all split_at
 split_each [] ws = sym (gather_each ws)
 split_each (q ∷ qs) ws =
-    split_each qs (gather (split_one q) ws) ∙ gather_gather (λ v. split_all qs (v ∷ [])) (split_one q) ws
+    split_each qs (flat_map (split_one q) ws) ∙ gather_gather (λ v. split_all qs (v ∷ [])) (split_one q) ws
     ∙ gather_as ws (λ w m. sym (split_each qs (split_one q w)) ∙ ap (split_all qs) (sym (append-nil (split_one q w))))
 
 standing_on : (n : Wire) (ws : List Wire) (ps : List Point) (q : Point) → q ∈ standing n ws ps → On q n
@@ -64,13 +65,13 @@ standing_on n ws ps q m = (keep_in (λ q. on_reads q n) _ m).1
 
 module _ (n r : Wire) (ws : List Wire) (ps : List Point) {marks : List Bool} (k : Marked n.vertical (standing n ws ps) marks) (e : n.end ≤ 12000) (free : (w : Wire) → w ∈ ws → Meets n w → ⊥) where
   -- the rows around the run
-  rows_cut : (vs : List Wire) → ((v : Wire) → v ∈ vs → v ∈ ws) → gather (cut_across n marks) vs ≡ split_all (standing n ws ps) vs
+  rows_cut : (vs : List Wire) → ((v : Wire) → v ∈ vs → v ∈ ws) → flat_map (cut_across n marks) vs ≡ split_all (standing n ws ps) vs
   rows_cut vs h = gather_as vs (λ v m. cut_across_lem n v (standing_on n ws ps) k e (free v (h v m))) ∙ sym (split_each (standing n ws ps) vs)
 
   -- the run
   run_cut : r.vertical ≡ n.vertical → r.line ≡ n.line → cut_from (λ a. get_or marks a false) n.start (n.end + 1 - n.start) r ≡ split_all (standing n ws ps) (r ∷ [])
   run_cut d l = split_cuts (standing n ws ps) (λ a. get_or marks a false) n.start (n.end + 1 - n.start) r aim
-      (λ c g h. k.each c (omega arith) ∙ ap (λ (v : Bool). any (λ q. eqb (along v q) c) (standing n ws ps)) (sym d))
+      (λ c g h. k.each c (omega arith) ∙ ap (λ (v : Bool). list_any (λ q. eqb (along v q) c) (standing n ws ps)) (sym d))
     where
       aim : (q : Point) → q ∈ standing n ws ps → Aimed r n.start (n.end + 1 - n.start) q
       aim q m =
@@ -85,7 +86,7 @@ module _ (n r : Wire) (ws : List Wire) (ps : List Point) {marks : List Bool} (k 
 
   -- all of them
   laid_whole : (p : ℕ) → p ≡ span (λ v. not (first r v)) ws → r.vertical ≡ n.vertical → r.line ≡ n.line
-      → (gather (cut_across n marks) (take p ws) ++ cut_from (λ a. get_or marks a false) n.start (n.end + 1 - n.start) r) ++ gather (cut_across n marks) (drop p ws) ≡ lay n r ws ps
+      → (flat_map (cut_across n marks) (take p ws) ++ cut_from (λ a. get_or marks a false) n.start (n.end + 1 - n.start) r) ++ flat_map (cut_across n marks) (drop p ws) ≡ lay n r ws ps
   unfolding lay insert_at
   laid_whole p s d l =
       (λ i. (rows_cut (take p ws) (λ v m. in_take p ws m) i ++ run_cut d l i) ++ rows_cut (drop p ws) (λ v m. in_drop p ws m) i)
@@ -98,7 +99,7 @@ module _ (n r : Wire) (ws : List Wire) (ps : List Point) {marks : List Bool} (k 
       Q = standing n ws ps
 
 -- the wire ends that stand, then the pads
-standing_marks : (n : Wire) (ws : List Wire) (ps : List Point) {marks : List Bool} → Marked n.vertical (keep (λ p. on p n) (ends ws) ++ keep (λ p. on p n) ps) marks → Marked n.vertical (standing n ws ps) marks
+standing_marks : (n : Wire) (ws : List Wire) (ps : List Point) {marks : List Bool} → Marked n.vertical (filter (λ p. on p n) (ends ws) ++ filter (λ p. on p n) ps) marks → Marked n.vertical (standing n ws ps) marks
 unfolding standing
 standing_marks n ws ps {marks} m = subst (λ (l : List Point). Marked n.vertical l marks) (sym (keep_append (λ p. on p n) (ends ws) ps)) m
 
@@ -109,13 +110,13 @@ pub place_within : (f : Wire → Bool) (rows : List Wire) (count p : ℕ) → p 
 place_within f rows count p e = omega (arith, span_le f (take count rows), length-take count rows)
 
 pub laid_table : (n r : Wire) (rows : List Wire) (count : ℕ) (ps : List Point) {marks : List Bool} {p : ℕ} {g h k o : Grown} → p ≡ span (λ v. not (first r v)) (take count rows)
-    → Marked n.vertical (keep (λ q. on q n) (ends (take count rows)) ++ keep (λ q. on q n) ps) marks → n.end ≤ 12000 → ((w : Wire) → w ∈ take count rows → Meets n w → ⊥) → r.vertical ≡ n.vertical → r.line ≡ n.line
-    → Grows [] g → Adds (gather (cut_across n marks) (drop 0 (take p rows))) g h → Adds (cut_from (λ a. get_or marks a false) n.start (n.end + 1 - n.start) r) h k → Adds (gather (cut_across n marks) (drop p (take count rows))) k o
+    → Marked n.vertical (filter (λ q. on q n) (ends (take count rows)) ++ filter (λ q. on q n) ps) marks → n.end ≤ 12000 → ((w : Wire) → w ∈ take count rows → Meets n w → ⊥) → r.vertical ≡ n.vertical → r.line ≡ n.line
+    → Grows [] g → Adds (flat_map (cut_across n marks) (drop 0 (take p rows))) g h → Adds (cut_from (λ a. get_or marks a false) n.start (n.end + 1 - n.start) r) h k → Adds (flat_map (cut_across n marks) (drop p (take count rows))) k o
     → Grows (lay n r (take count rows) ps) o
 laid_table n r rows count ps {marks} {p} {o = o} s m e free d l z a b c =
     let whole = laid_whole n r (take count rows) ps (standing_marks n (take count rows) ps m) e free p s d l in
     let same = take-take p count rows (place_within (λ v. not (first r v)) rows count p s) in
-    grows_as (ap (λ (us : List Wire). (gather (cut_across n marks) us ++ cut_from (λ a. get_or marks a false) n.start (n.end + 1 - n.start) r) ++ gather (cut_across n marks) (drop p (take count rows))) (sym same) ∙ whole)
+    grows_as (ap (λ (us : List Wire). (flat_map (cut_across n marks) us ++ cut_from (λ a. get_or marks a false) n.start (n.end + 1 - n.start) r) ++ flat_map (cut_across n marks) (drop p (take count rows))) (sym same) ∙ whole)
     ((adds_more (adds_more a b) c).so [] z)
 
 -- the run and the rest as the edit has them

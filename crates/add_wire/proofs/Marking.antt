@@ -10,7 +10,7 @@ use lib.Dec.{T, eqb}
 use lib.ListN.{get_or, set, replicate, length-set, length-replicate}
 use lib.Seq.{get_or-set_same, get_or-set_other}
 use Rattle.symbol.specs.declared.Point.{Point}
-use Rattle.lists.specs.Lists.{any, keep}
+use Rattle.std.specs.List.{list_any, filter}
 use Rattle.lists.proofs.Tests.{decide, holds, eqb_reads}
 use Rattle.lists.proofs.Appends.{any_append, keep_append}
 use Rattle.sheet.specs.declared.Wire.{Wire}
@@ -27,7 +27,6 @@ unmarked (suc n) zero = refl
 unmarked (suc n) (suc a) = unmarked n a
 
 pub marked_none : (d : Bool) → Marked d [] (replicate 12001 false)
-unfolding any
 marked_none d = record { size = length-replicate 12001 false; each = λ a h. unmarked 12001 a }
 
 pub marked_as : {d : Bool} {qs rs : List Point} {marks : List Bool} → qs ≡ rs → Marked d qs marks → Marked d rs marks
@@ -35,14 +34,13 @@ marked_as {d} {marks = marks} e m = subst (λ (l : List Point). Marked d l marks
 
 -- one point more
 marked_set : {d : Bool} {qs : List Point} {marks : List Bool} (p : Point) → Marked d qs marks → along d p ≤ 12000 → Marked d (qs ++ (p ∷ [])) (set marks (along d p) true)
-unfolding any
 marked_set {d} {qs} {marks} p m h = record {
   size = length-set marks (along d p) true ∙ m.size;
   each = λ a k. ⊎_elim
       (λ (e : a ≡ along d p). ap (λ (b : ℕ). get_or (set marks (along d p) true) b false) e ∙ get_or-set_same marks (along d p) true false (omega (arith, m.size))
-      ∙ sym (any_append (λ q. eqb (along d q) a) qs (p ∷ []) ∙ ap (λ (b : Bool). any (λ q. eqb (along d q) a) qs || (b || false)) (eq-eqb (along d p) a (sym e)) ∙ or-true (any (λ q. eqb (along d q) a) qs)))
+      ∙ sym (any_append (λ q. eqb (along d q) a) qs (p ∷ []) ∙ ap (λ (b : Bool). list_any (λ q. eqb (along d q) a) qs || (b || false)) (eq-eqb (along d p) a (sym e)) ∙ or-true (list_any (λ q. eqb (along d q) a) qs)))
       (λ (f : a ≡ along d p → ⊥). get_or-set_other marks (along d p) a true false f ∙ m.each a k
-      ∙ sym (any_append (λ q. eqb (along d q) a) qs (p ∷ []) ∙ ap (λ (b : Bool). any (λ q. eqb (along d q) a) qs || (b || false)) (ne_eqb (along d p) a (λ e. f (sym e))) ∙ or-false (any (λ q. eqb (along d q) a) qs)))
+      ∙ sym (any_append (λ q. eqb (along d q) a) qs (p ∷ []) ∙ ap (λ (b : Bool). list_any (λ q. eqb (along d q) a) qs || (b || false)) (ne_eqb (along d p) a (λ e. f (sym e))) ∙ or-false (list_any (λ q. eqb (along d q) a) qs)))
       (decide (eqb_reads a (along d p)));
 }
 
@@ -59,14 +57,12 @@ more_as {d} {marks} {next} e m = subst (λ (l : List Point). More d marks l next
 
 -- one point, that lies on the wire or not
 module _ (n : Wire) (p : Point) (marks : List Bool) where
-  pub more_on : {a : ℕ} → on p n ≡ true → a ≡ along n.vertical p → n.end ≤ 12000 → More n.vertical marks (keep (λ q. on q n) (p ∷ [])) (set marks a true)
-  unfolding keep
+  pub more_on : {a : ℕ} → on p n ≡ true → a ≡ along n.vertical p → n.end ≤ 12000 → More n.vertical marks (filter (λ q. on q n) (p ∷ [])) (set marks a true)
   more_on e f h = rw (e, f) (record { so = λ ps m. marked_set p m (omega (arith, (on_true p n e).to)) })
 
-  pub more_off : on p n ≡ false → More n.vertical marks (keep (λ q. on q n) (p ∷ [])) marks
-  unfolding keep
+  pub more_off : on p n ≡ false → More n.vertical marks (filter (λ q. on q n) (p ∷ [])) marks
   more_off e = rw e (more_none n.vertical marks)
 
 -- both ends of a wire
-pub more_tips : {d : Bool} {marks next last : List Bool} (f : Point → Bool) (w : Wire) {a b : Point} → More d marks (keep f (a ∷ [])) next → More d next (keep f (b ∷ [])) last → a ≡ tip low w → b ≡ tip high w → More d marks (keep f (tips w)) last
-more_tips f w {a} {b} p q e g = more_as (sym (keep_append f (a ∷ []) (b ∷ [])) ∙ (λ i. keep f (e i ∷ g i ∷ []))) (more_then p q)
+pub more_tips : {d : Bool} {marks next last : List Bool} (f : Point → Bool) (w : Wire) {a b : Point} → More d marks (filter f (a ∷ [])) next → More d next (filter f (b ∷ [])) last → a ≡ tip low w → b ≡ tip high w → More d marks (filter f (tips w)) last
+more_tips f w {a} {b} p q e g = more_as (sym (keep_append f (a ∷ []) (b ∷ [])) ∙ (λ i. filter f (e i ∷ g i ∷ []))) (more_then p q)

@@ -2,7 +2,7 @@
 use Rattle.std.specs.Prelude.{ℕ, zero, suc, ◌≤◌, ◌≡◌, List, [], ◌∷◌, ◌++◌, Bool, false, ◌&&◌, cond, not, eqb, ltb, length, get_or}
 use Rattle.std.specs.Bool.{beq}
 use Rattle.symbol.specs.declared.Point.{Point}
-use Rattle.lists.specs.Lists.{any}
+use Rattle.std.specs.List.{list_any}
 use Rattle.sheet.specs.declared.Wire.{Wire}
 use Rattle.sheet.specs.Geometry.{along, point, on, inside}
 use Rattle.sheet.specs.Split.{up_to, from_on, left, right}
@@ -12,7 +12,7 @@ use Rattle.wires.specs.Tables.{Grows}
 -- a place along the direction is marked exactly when a point of the list lies there
 pub record Marked (d : Bool) (qs : List Point) (marks : List Bool) : Type 0 where
   pub size : length marks ≡ 12001
-  pub each : (a : ℕ) → a ≤ 12000 → get_or marks a false ≡ any (λ q. eqb (along d q) a) qs
+  pub each : (a : ℕ) → a ≤ 12000 → get_or marks a false ≡ list_any (λ q. eqb (along d q) a) qs
 
 -- with the places of further points marked, whatever was marked before
 pub record More (d : Bool) (marks : List Bool) (qs : List Point) (next : List Bool) : Type 0 where

@@ -1,6 +1,6 @@
 // Rows put behind those of a table, cut at marks along the new wire.
 ghost use Rattle.std.specs.Prelude.{◌≡◌, false, ℕ, ◌+◌, ◌-◌, ◌≤◌, take, drop, get_or};
-ghost use Rattle.lists.specs.Lists.{gather};
+ghost use Rattle.std.specs.List.{flat_map};
 ghost use Rattle.sheet.specs.Split.{up_to};
 ghost use Rattle.add_wire.specs.Marks.{is_crossed, cut_across, cut_from, Adds};
 
@@ -28,7 +28,7 @@ fn is_crossed(n: Wire, marks: &[bool; 12001], w: Wire) -> bool
 // The rows of t from one up to another go behind those of g, each split where n crosses it at a mark.
 pub fn cut_rows(g: Grown, t: Wires, from: usize, to: usize, n: Wire, marks: &[bool; 12001]) -> Grown
     requires { (to ≤ 512) × (n.end ≤ 12000) }
-    ensures { Adds (gather (cut_across n marks.now) (drop from (take to t.rows))) g result }
+    ensures { Adds (flat_map (cut_across n marks.now) (drop from (take to t.rows))) g result }
 {
     if g.full {
         return g;

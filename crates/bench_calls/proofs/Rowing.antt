@@ -9,7 +9,8 @@ use lib.IntN.{ℤ}
 use lib.ListN.{length, get_or, length-take}
 use Rattle.lists.specs.Tables.{pad, Holds}
 use Rattle.lists.proofs.Tables.{length_pad, same_row}
-use Rattle.lists.specs.Lists.{keep, insert}
+use Rattle.lists.specs.Lists.{insert}
+use Rattle.std.specs.List.{filter}
 use Rattle.symbol.specs.declared.Point.{Point}
 use Rattle.sheet.specs.declared.Wire.{Wire}
 use Rattle.sheet.specs.declared.Component.{Component}
@@ -77,16 +78,16 @@ module _ (call : ℕ) (x y z : ℤ) (d : Drawing) {a : AskedPointer} (q : a ≡ 
         ap (λ (b : AskedPointer). grown_rows (split_at b.point (lists_of d).wires)) q
         ∙ rw (eq-eqb (asked_pointer x y z).reply 0 (sym same_reply ∙ h), eq-eqb call 8 e) refl
 
-    pub pointed_wires : (call ≡ 8 → ⊥) → call ≡ 9 → line_at (a.size % 512) (keep (λ w. not (meets_wire a.point a.size w)) (lists_of d).wires) ≡ pointed_answer call x y z d
+    pub pointed_wires : (call ≡ 8 → ⊥) → call ≡ 9 → line_at (a.size % 512) (filter (λ w. not (meets_wire a.point a.size w)) (lists_of d).wires) ≡ pointed_answer call x y z d
     unfolding pointed_answer
     pointed_wires f e =
-        ap (λ (b : AskedPointer). line_at (b.size % 512) (keep (λ w. not (meets_wire b.point b.size w)) (lists_of d).wires)) q
+        ap (λ (b : AskedPointer). line_at (b.size % 512) (filter (λ w. not (meets_wire b.point b.size w)) (lists_of d).wires)) q
         ∙ rw (eq-eqb (asked_pointer x y z).reply 0 (sym same_reply ∙ h), ne_eqb call 8 f, eq-eqb call 9 e) refl
 
-    pub pointed_parts : (call ≡ 8 → ⊥) → (call ≡ 9 → ⊥) → x_at (a.size % 128) (keep (λ c. not (meets_part a.point a.size c)) (lists_of d).parts) ≡ pointed_answer call x y z d
+    pub pointed_parts : (call ≡ 8 → ⊥) → (call ≡ 9 → ⊥) → x_at (a.size % 128) (filter (λ c. not (meets_part a.point a.size c)) (lists_of d).parts) ≡ pointed_answer call x y z d
     unfolding pointed_answer
     pointed_parts f g =
-        ap (λ (b : AskedPointer). x_at (b.size % 128) (keep (λ c. not (meets_part b.point b.size c)) (lists_of d).parts)) q
+        ap (λ (b : AskedPointer). x_at (b.size % 128) (filter (λ c. not (meets_part b.point b.size c)) (lists_of d).parts)) q
         ∙ rw (eq-eqb (asked_pointer x y z).reply 0 (sym same_reply ∙ h), ne_eqb call 8 f, ne_eqb call 9 g) refl
 
 -- ---- a wire laid, a component put in

@@ -1,7 +1,8 @@
 -- Beside the calls: operations on the tables of a drawing ("Numbers and rows"), by number; each answers how many rows come out, or a number
 -- of one of them.
 use Rattle.std.specs.Prelude.{ℕ, ◌%◌, false, cond, not, List, [], eqb, ltb, ℤ, length, get_or}
-use Rattle.lists.specs.Lists.{keep, insert}
+use Rattle.lists.specs.Lists.{insert}
+use Rattle.std.specs.List.{filter}
 use Rattle.lists.specs.Tables.{pad}
 use Rattle.sheet.specs.declared.Wire.{Wire}
 use Rattle.sheet.specs.declared.Component.{Component}
@@ -36,8 +37,8 @@ pointed_answer call x y z d =
     let s = lists_of d in
     cond (eqb a.reply 0)
     (cond (eqb call 8) (grown_rows (split_at a.point s.wires))
-    (cond (eqb call 9) (line_at (a.size % 512) (keep (λ w. not (meets_wire a.point a.size w)) s.wires))
-    (x_at (a.size % 128) (keep (λ c. not (meets_part a.point a.size c)) s.parts))))
+    (cond (eqb call 9) (line_at (a.size % 512) (filter (λ w. not (meets_wire a.point a.size w)) s.wires))
+    (x_at (a.size % 128) (filter (λ c. not (meets_part a.point a.size c)) s.parts))))
     0
 
 -- 11 a horizontal wire laid

@@ -1,6 +1,7 @@
 // One operation on the tables of a drawing: how many rows come out, or a number of one of them.
 ghost use Rattle.std.specs.Prelude.{not, ◌≡◌, ◌≤◌, ◌<◌, ◌%◌, length, get_or};
-ghost use Rattle.lists.specs.Lists.{keep, insert};
+ghost use Rattle.lists.specs.Lists.{insert};
+ghost use Rattle.std.specs.List.{filter};
 ghost use Rattle.lists.specs.Tables.{pad};
 ghost use Rattle.sheet.specs.Drawings.{wire_rows, component_rows, lists_of};
 ghost use Rattle.sheet.specs.Edits.{meets_wire, meets_part};
@@ -38,7 +39,7 @@ fn split_rows(ws: Wires, p: Point) -> u32
 
 fn unhit_row(ws: Wires, p: Point, size: u16) -> u32
     requires { (ws.count ≤ 512) × ((p.x ≤ 12000) × ((p.y ≤ 12000) × (size ≤ 1000))) }
-    ensures { result ≡ line_at (size % 512) (keep (λ w. not (meets_wire p size w)) (wire_rows ws)) }
+    ensures { result ≡ line_at (size % 512) (filter (λ w. not (meets_wire p size w)) (wire_rows ws)) }
 {
     let t = keep_unhit(ws, p, size);
     let i = (size % 512) as usize;
@@ -48,7 +49,7 @@ fn unhit_row(ws: Wires, p: Point, size: u16) -> u32
 
 fn unmet_row(cs: Components, p: Point, size: u16) -> u32
     requires { PartsFit cs × ((p.x ≤ 12000) × ((p.y ≤ 12000) × (size ≤ 1000))) }
-    ensures { result ≡ x_at (size % 128) (keep (λ c. not (meets_part p size c)) (component_rows cs)) }
+    ensures { result ≡ x_at (size % 128) (filter (λ c. not (meets_part p size c)) (component_rows cs)) }
 {
     let t = keep_unmet(cs, p, size);
     let i = (size % 128) as usize;

@@ -8,31 +8,29 @@ use mathlib.Core.Bool.{Bool, true, false, ◌||◌, false≢true}
 use lib.Dec.{T, eqb, ltb}
 use borrow.Author.Tests.{eq-eqb, eqb-true}
 use lib.ListN.{length, get_or}
-use Rattle.lists.specs.Lists.{any}
+use Rattle.std.specs.List.{list_any}
 use Rattle.lists.proofs.Tests.{holds, passes, agree, ltb_reads}
 use Rattle.chains.specs.Chains.{Met, here, later, Traced, FoundAt}
 
 -- c, if it is one of the list, is still to be met from k on
 pub record Sought (c : ℕ) (cs before : List ℕ) (k : ℕ) : Type 0 where
-  pub ahead : any (eqb c) cs ≡ true → (j : ℕ) × (get_or cs j 0 ≡ c) × Met before k j
+  pub ahead : list_any (eqb c) cs ≡ true → (j : ℕ) × (get_or cs j 0 ≡ c) × Met before k j
   pub within : k ≤ length cs
 
-any_at : (c : ℕ) (cs : List ℕ) → any (eqb c) cs ≡ true → (j : ℕ) × (j < length cs) × (get_or cs j 0 ≡ c)
-unfolding any
+any_at : (c : ℕ) (cs : List ℕ) → list_any (eqb c) cs ≡ true → (j : ℕ) × (j < length cs) × (get_or cs j 0 ≡ c)
 any_at c [] e = absurd (false≢true e)
 any_at c (x ∷ cs) e = step (eqb c x) refl (any_at c cs) e
   where
-    step : (b : Bool) → eqb c x ≡ b → (any (eqb c) cs ≡ true → (j : ℕ) × (j < length cs) × (get_or cs j 0 ≡ c)) → (b || any (eqb c) cs) ≡ true → (j : ℕ) × (j < suc (length cs)) × (get_or (x ∷ cs) j 0 ≡ c)
+    step : (b : Bool) → eqb c x ≡ b → (list_any (eqb c) cs ≡ true → (j : ℕ) × (j < length cs) × (get_or cs j 0 ≡ c)) → (b || list_any (eqb c) cs) ≡ true → (j : ℕ) × (j < suc (length cs)) × (get_or (x ∷ cs) j 0 ≡ c)
     step true q ih e = (zero, omega arith, sym (eqb-true c x q))
     step false q ih e = let t = ih e in (suc t.0, omega (arith, t.1), t.2)
 
-at_any : (c : ℕ) (cs : List ℕ) (j : ℕ) → j < length cs → get_or cs j 0 ≡ c → any (eqb c) cs ≡ true
-unfolding any
+at_any : (c : ℕ) (cs : List ℕ) (j : ℕ) → j < length cs → get_or cs j 0 ≡ c → list_any (eqb c) cs ≡ true
 at_any c [] j h e = absurd (not-suc-le-zero h)
 at_any c (x ∷ cs) zero h e = rw (eq-eqb c x (sym e))
 at_any c (x ∷ cs) (suc j) h e = step (eqb c x) (at_any c cs j (le_of_suc-le-suc h) e)
   where
-    step : (b : Bool) → any (eqb c) cs ≡ true → (b || any (eqb c) cs) ≡ true
+    step : (b : Bool) → list_any (eqb c) cs ≡ true → (b || list_any (eqb c) cs) ≡ true
     step true q = refl
     step false q = q
 
@@ -64,7 +62,7 @@ sought_next {c} {k} {cs} {before} s h f g = record {
 -- the number at the link is the one sought
 pub found_here : {c k n : ℕ} {cs before : List ℕ} → Sought c cs before k → 0 < k → k ≤ n → get_or cs (k - 1) 0 ≡ c → FoundAt c cs n (k - 1)
 found_here {c} {k} {n} {cs} s h m e = record {
-  there = agree (ltb (k - 1) n) (any (eqb c) cs) (λ t. subst T (sym (at_any c cs (k - 1) (omega (arith, s.within)) e)) tt) (λ t. passes (ltb_reads (k - 1) n) (omega arith));
+  there = agree (ltb (k - 1) n) (list_any (eqb c) cs) (λ t. subst T (sym (at_any c cs (k - 1) (omega (arith, s.within)) e)) tt) (λ t. passes (ltb_reads (k - 1) n) (omega arith));
   is = λ l. e;
 }
 
@@ -75,10 +73,10 @@ met_end (later p) e = omega arith
 -- the chain ends without it
 pub found_none : {c k : ℕ} {cs before : List ℕ} (n : ℕ) → Sought c cs before k → k ≡ 0 → FoundAt c cs n n
 found_none {c} {k} {cs} n s e = record {
-  there = agree (ltb n n) (any (eqb c) cs) (λ t. absurd (omega (arith, holds (ltb_reads n n) t))) (λ t. absurd (none (any (eqb c) cs) refl t));
+  there = agree (ltb n n) (list_any (eqb c) cs) (λ t. absurd (omega (arith, holds (ltb_reads n n) t))) (λ t. absurd (none (list_any (eqb c) cs) refl t));
   is = λ l. absurd (omega arith);
 }
   where
-    none : (b : Bool) → any (eqb c) cs ≡ b → T b → ⊥
+    none : (b : Bool) → list_any (eqb c) cs ≡ b → T b → ⊥
     none true q t = met_end (s.ahead q).2 e
     none false q t = t

@@ -1,7 +1,7 @@
 -- Below the calls: numbers found by key: points, for "exactly two wire ends in line, without a pad" and for "each point with a wire end or
 -- pad once". Those of one key are linked, each to the last one before it. A link is a place plus one, and 0 is the end.
 use Rattle.std.specs.Prelude.{ℕ, suc, ◌≤◌, ◌<◌, List, ◌≡◌, eqb, ltb, length, get_or}
-use Rattle.lists.specs.Lists.{any}
+use Rattle.std.specs.List.{list_any}
 
 -- following the links from k, place j is met
 pub data Met (before : List ℕ) : ℕ → ℕ → Type 0 where
@@ -16,5 +16,5 @@ pub record Traced (key : ℕ → ℕ) (cs last before : List ℕ) : Type 0 where
 
 -- c is at place r of the n numbers, and where it is none of them r is no place
 pub record FoundAt (c : ℕ) (cs : List ℕ) (n r : ℕ) : Type 0 where
-  pub there : ltb r n ≡ any (eqb c) cs
+  pub there : ltb r n ≡ list_any (eqb c) cs
   pub is : r < n → get_or cs r 0 ≡ c

@@ -2,7 +2,7 @@
 #![tactic(auto)]
 
 ghost use Rattle.std.specs.Prelude.{◌≡◌, ◌≤◌, ◌<◌, ◌%◌, eqb, take};
-ghost use Rattle.lists.specs.Lists.{any};
+ghost use Rattle.std.specs.List.{list_any};
 ghost use Rattle.chains.specs.Chains.{Traced, FoundAt};
 
 // The last place of each key, and for each place the one before it with its key; both plus one, and 0 for none.
@@ -71,7 +71,7 @@ pub fn is_in(
     c: u64,
 ) -> bool
     requires { (n ≤ 1408) × Traced (λ c. c % 4093) (take n codes.now) last.now before.now }
-    ensures { result ≡ any (eqb c) (take n codes.now) }
+    ensures { result ≡ list_any (eqb c) (take n codes.now) }
 {
     seek(codes, n, last, before, c) < n
 }

@@ -5,7 +5,8 @@ use mathlib.Core.Bool.{Bool, true, false, ◌&&◌}
 use lib.Dec.{T}
 use lib.IntN.{ℤ, nat_abs}
 use lib.Ieee.{of_int, of_bits}
-use Rattle.lists.specs.Lists.{◌∈◌, all}
+use Rattle.lists.specs.Lists.{◌∈◌}
+use Rattle.std.specs.List.{list_all}
 use Rattle.lists.proofs.Tests.{test, holds, both_l, both_r}
 use Rattle.lists.proofs.Lists.{all_reads}
 use Rattle.orientation.specs.Orientations.{known}
@@ -29,8 +30,8 @@ abbrev tame_draw : Draw → Bool
 tame_draw (Line p q width) = tame_point p && tame_point q
 tame_draw (Circle p radius width) = tame_point p
 
-draws_tame : (kind : ℕ) (a b : Bool) → T (all tame_draw (draws_of kind a b))
-unfolding all tame draws_of power_draws contact_static moving_contact coil_static inner_circle whole minus bits of_int of_bits
+draws_tame : (kind : ℕ) (a b : Bool) → T (list_all tame_draw (draws_of kind a b))
+unfolding tame draws_of power_draws contact_static moving_contact coil_static inner_circle whole minus bits of_int of_bits
 draws_tame zero a b = tt
 draws_tame (suc zero) true true = tt
 draws_tame (suc zero) true false = tt

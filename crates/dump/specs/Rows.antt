@@ -1,6 +1,6 @@
 -- The rows of a drawing as text, a line each: the tally, the wires, the joints, the components, and a line `.` at the end.
 use Rattle.std.specs.Prelude.{ℕ, ◌≤◌, Bool, cond, List, [], ◌∷◌, ◌++◌, length}
-use Rattle.lists.specs.Lists.{gather}
+use Rattle.std.specs.List.{flat_map}
 use Rattle.edge.specs.Coordinates.{coord_of}
 use Rattle.label.specs.Labels.{label_part}
 use Rattle.sheet.specs.declared.Wire.{Wire}
@@ -52,7 +52,7 @@ component_line c =
 -- ---- the whole, the rows "in row order"
 
 unfoldable pub row_lines : Tally → Drawing → List ℕ
-row_lines t d = tally_line t ++ (gather wire_line (wire_rows d.wires) ++ (gather joint_line (joint_rows d.joints) ++ gather component_line (component_rows d.components)))
+row_lines t d = tally_line t ++ (flat_map wire_line (wire_rows d.wires) ++ (flat_map joint_line (joint_rows d.joints) ++ flat_map component_line (component_rows d.components)))
 
 -- and then a line `.`
 unfoldable pub rows_of : Tally → Drawing → List ℕ

@@ -1,6 +1,6 @@
 // The lines of a table's rows, in row order.
 ghost use Rattle.std.specs.Prelude.{◌≤◌};
-ghost use Rattle.lists.specs.Lists.{gather};
+ghost use Rattle.std.specs.List.{flat_map};
 ghost use Rattle.sheet.specs.Drawings.{wire_rows, joint_rows, component_rows};
 ghost use Rattle.dump.specs.Rows.{wire_line, joint_line, component_line, Puts, Space};
 
@@ -11,7 +11,7 @@ use sheet::{Components, Joints, Wires};
 pub(crate) fn put_wires(out: &mut [u8], at: usize, ws: Wires) -> usize
     requires few { ws.count ≤ 512 }
     requires space { Space at 11264 }
-    ensures { Puts 11264 out.old at (gather wire_line (wire_rows ws)) out.new result }
+    ensures { Puts 11264 out.old at (flat_map wire_line (wire_rows ws)) out.new result }
 {
     let count = ws.count;
     let mut next = at;
@@ -28,7 +28,7 @@ pub(crate) fn put_wires(out: &mut [u8], at: usize, ws: Wires) -> usize
 pub(crate) fn put_joints(out: &mut [u8], at: usize, js: Joints) -> usize
     requires few { js.count ≤ 1408 }
     requires space { Space at 35200 }
-    ensures { Puts 35200 out.old at (gather joint_line (joint_rows js)) out.new result }
+    ensures { Puts 35200 out.old at (flat_map joint_line (joint_rows js)) out.new result }
 {
     let count = js.count;
     let mut next = at;
@@ -45,7 +45,7 @@ pub(crate) fn put_joints(out: &mut [u8], at: usize, js: Joints) -> usize
 pub(crate) fn put_components(out: &mut [u8], at: usize, cs: Components) -> usize
     requires few { cs.count ≤ 128 }
     requires space { Space at 6784 }
-    ensures { Puts 6784 out.old at (gather component_line (component_rows cs)) out.new result }
+    ensures { Puts 6784 out.old at (flat_map component_line (component_rows cs)) out.new result }
 {
     let count = cs.count;
     let mut next = at;

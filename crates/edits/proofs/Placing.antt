@@ -8,7 +8,8 @@ use mathlib.Core.Logic.{⊎_elim}
 use mathlib.Core.Path.{◌≡◌, refl, sym, ap, ◌∙◌, subst}
 use lib.ListN.{length, take, get_or, length-map}
 use lib.Seq.{length-take-le}
-use Rattle.lists.specs.Lists.{◌∈◌, any, insert}
+use Rattle.lists.specs.Lists.{◌∈◌, insert}
+use Rattle.std.specs.List.{list_any}
 use Rattle.lists.proofs.Lists.{insert_in}
 use Rattle.lists.proofs.Appends.{length_insert}
 use Rattle.lists.proofs.Tables.{holds_as, holds_list, holds_self, holds_count}
@@ -48,12 +49,12 @@ placing_start alter rows m {ws} {cs} s = record {
 
 -- the next one touches another, or it does not
 module _ (n : ℕ) (c : Component) (cs : List Component) (s : Sheet) where
-  next_lost : any (touches c) s.parts ≡ true → lose n (place_all (c ∷ cs) s) ≡ lose (n + 1) (place_all cs s)
+  next_lost : list_any (touches c) s.parts ≡ true → lose n (place_all (c ∷ cs) s) ≡ lose (n + 1) (place_all cs s)
   unfolding place_all
   next_lost e = let more : n + suc (place_all cs s).lost ≡ n + 1 + (place_all cs s).lost = omega arith in
       rw e (λ i. record { sheet = (place_all cs s).sheet; lost = more i })
 
-  next_placed : any (touches c) s.parts ≡ false → lose n (place_all (c ∷ cs) s) ≡ lose n (place_all cs (place_one c s))
+  next_placed : list_any (touches c) s.parts ≡ false → lose n (place_all (c ∷ cs) s) ≡ lose n (place_all cs (place_one c s))
   unfolding place_all
   next_placed e = rw e
 
@@ -65,23 +66,23 @@ module _ {whole : Placed} {alter : Component → Component} {rows : List Compone
   placing_parts = holds_self s.parts
 
   module _ (d c : Component) (e : c ≡ alter (get_or rows i d)) (h : i < m) (k : m ≤ length rows) where
-    pub placing_lost : any (touches c) (component_rows cs) ≡ true → Placing whole alter rows m (i + 1) g cs (lost + 1)
+    pub placing_lost : list_any (touches c) (component_rows cs) ≡ true → Placing whole alter rows m (i + 1) g cs (lost + 1)
     placing_lost t = record {
       sheet = s.sheet;
       wires = s.wires;
       parts = s.parts;
       fits = s.fits;
-      rest = rest_next d s.rest (λ xs. next_lost lost (alter (get_or rows i d)) (map alter xs) s.sheet ((λ j. any (touches (sym e j)) (sym (holds_list s.parts) j)) ∙ t)) h k;
+      rest = rest_next d s.rest (λ xs. next_lost lost (alter (get_or rows i d)) (map alter xs) s.sheet ((λ j. list_any (touches (sym e j)) (sym (holds_list s.parts) j)) ∙ t)) h k;
     }
 
-    pub placing_placed : {u : Grown} {v : Components} → PartFits c → any (touches c) (component_rows cs) ≡ false → Splits (pads c) g u → TabledParts (insert ahead c (component_rows cs)) v → Placing whole alter rows m (i + 1) u v lost
+    pub placing_placed : {u : Grown} {v : Components} → PartFits c → list_any (touches c) (component_rows cs) ≡ false → Splits (pads c) g u → TabledParts (insert ahead c (component_rows cs)) v → Placing whole alter rows m (i + 1) u v lost
     unfolding place_one
     placing_placed f t a b = record {
       sheet = place_one c s.sheet;
       wires = a.so s.sheet.wires s.wires;
       parts = holds_as (ap (insert ahead c) (holds_list s.parts)) b;
       fits = λ z q. ⊎_elim (λ (x : z ≡ c). subst PartFits (sym x) f) (s.fits z) (insert_in ahead c s.sheet.parts q);
-      rest = rest_next d s.rest (λ xs. next_placed lost (alter (get_or rows i d)) (map alter xs) s.sheet ((λ j. any (touches (sym e j)) (sym (holds_list s.parts) j)) ∙ t) ∙ (λ j. lose lost (place_all (map alter xs) (place_one (sym e j) s.sheet)))) h k;
+      rest = rest_next d s.rest (λ xs. next_placed lost (alter (get_or rows i d)) (map alter xs) s.sheet ((λ j. list_any (touches (sym e j)) (sym (holds_list s.parts) j)) ∙ t) ∙ (λ j. lose lost (place_all (map alter xs) (place_one (sym e j) s.sheet)))) h k;
     }
 
   pub placing_end : m ≤ i → m ≤ length rows → Grows whole.sheet.wires g × (TabledParts whole.sheet.parts cs × (lost ≡ whole.lost))

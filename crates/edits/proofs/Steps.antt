@@ -5,7 +5,8 @@ use mathlib.Core.Bool.{Bool, true, false, not}
 use mathlib.Core.List.{List, map}
 use mathlib.Core.Path.{◌≡◌, refl, sym, ap, ◌∙◌, subst}
 use lib.ListN.{length-map}
-use Rattle.lists.specs.Lists.{◌∈◌, keep, insert}
+use Rattle.lists.specs.Lists.{◌∈◌, insert}
+use Rattle.std.specs.List.{filter}
 use Rattle.lists.proofs.Tests.{test, not_reads}
 use Rattle.lists.proofs.Lists.{keep_all, keep_old}
 use Rattle.lists.proofs.Appends.{length_parts, length_insert}
@@ -75,11 +76,11 @@ module _ (c : Component) {ws : Wires} {cs : Components} (s : Sound ws cs) where
 
 -- ---- delete
 
-pub kept_fits : (f : Component → Bool) {l : List Component} {t : Components} → ((c : Component) → c ∈ l → PartFits c) → TabledParts (keep f l) t → PartsFit t
+pub kept_fits : (f : Component → Bool) {l : List Component} {t : Components} → ((c : Component) → c ∈ l → PartFits c) → TabledParts (filter f l) t → PartsFit t
 kept_fits f {l} a h = record { room = holds_count h; each = λ c m. a c (keep_old f l (subst (λ (x : List Component). c ∈ x) (holds_list h) m)) }
 
 module _ (f : Wire → Bool) (g : Component → Bool) (s : Sheet) {left wires : Wires} {parts : Components}
-    (a : Tabled (keep (λ w. not (f w)) s.wires) left) (b : TabledParts (keep (λ c. not (g c)) s.parts) parts) (m : Tabled (merge (wire_rows left) (pads_of (component_rows parts))) wires) where
+    (a : Tabled (filter (λ w. not (f w)) s.wires) left) (b : TabledParts (filter (λ c. not (g c)) s.parts) parts) (m : Tabled (merge (wire_rows left) (pads_of (component_rows parts))) wires) where
   pub removed_wires : Tabled (remove f g s).wires wires
   unfolding remove
   removed_wires = holds_as (λ i. merge (holds_list a i) (pads_of (holds_list b i))) m
@@ -91,8 +92,8 @@ module _ (f : Wire → Bool) (g : Component → Bool) (s : Sheet) {left wires : 
 -- ---- turn
 
 module _ (p : Point) (size : ℕ) {ws wires : Wires} {cs hs parts : Components} (s : Sound ws cs)
-    (a : TabledParts (keep (hits p size) (component_rows cs)) hs)
-    (b : TabledParts (keep (λ c. not (hits p size c)) (component_rows cs)) parts)
+    (a : TabledParts (filter (hits p size) (component_rows cs)) hs)
+    (b : TabledParts (filter (λ c. not (hits p size c)) (component_rows cs)) parts)
     (m : Tabled (merge (wire_rows ws) (pads_of (component_rows parts))) wires) where
   pub turned_sound : Sound wires parts
   turned_sound = record { wires = holds_self m; parts = holds_self b; fits = kept_fits (λ c. not (hits p size c)) s.fits.each b }
@@ -107,9 +108,9 @@ module _ (p : Point) (size : ℕ) {ws wires : Wires} {cs hs parts : Components} 
   pub turned_is : (right : Bool) → placed_again (map (altered right) (component_rows hs)) (sheet_of wires parts) ≡ turn (hits p size) (altered right) (sheet_of ws cs)
   unfolding turn remove
   turned_is right =
-      let every : keep (λ w. not false) (wire_rows ws) ≡ wire_rows ws = keep_all (λ w. not_reads (test false)) (wire_rows ws) (λ w k t. t) in
-      let are : wire_rows wires ≡ merge (keep (λ w. not false) (wire_rows ws)) (pads_of (keep (λ c. not (hits p size c)) (component_rows cs))) =
+      let every : filter (λ w. not false) (wire_rows ws) ≡ wire_rows ws = keep_all (λ w. not_reads (test false)) (wire_rows ws) (λ w k t. t) in
+      let are : wire_rows wires ≡ merge (filter (λ w. not false) (wire_rows ws)) (pads_of (filter (λ c. not (hits p size c)) (component_rows cs))) =
       holds_list m ∙ (λ i. merge (sym every i) (pads_of (holds_list b i))) in
-      let o = place_all (map (altered right) (keep (hits p size) (component_rows cs))) (remove (λ w. false) (hits p size) (sheet_of ws cs)) in
+      let o = place_all (map (altered right) (filter (hits p size) (component_rows cs))) (remove (λ w. false) (hits p size) (sheet_of ws cs)) in
       (λ i. placed_again (map (altered right) (holds_list a i)) (record { wires = are i; parts = holds_list b i }))
-      ∙ (λ i. record { sheet = o.sheet; hit = length-map (keep (hits p size) (component_rows cs)) (altered right) i; lost = o.lost })
+      ∙ (λ i. record { sheet = o.sheet; hit = length-map (filter (hits p size) (component_rows cs)) (altered right) i; lost = o.lost })

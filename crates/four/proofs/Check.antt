@@ -5,7 +5,8 @@ use mathlib.Core.List.{List, [], ◌∷◌, map}
 use mathlib.Core.Path.{◌≡◌, refl, ap, ◌∙◌}
 use lib.Dec.{leb, eqb}
 use lib.ListN.{drop}
-use Rattle.lists.specs.Lists.{all, links}
+use Rattle.lists.specs.Lists.{links}
+use Rattle.std.specs.List.{list_all}
 use Rattle.lists.proofs.Mapped.{all_mapped, links_mapped, rear}
 use Rattle.edge.specs.Coordinates.{is_position}
 use Rattle.orientation.specs.Orientations.{same_of}
@@ -49,11 +50,11 @@ module _ (d : Drawing) where
   unfolding Four.check1 Limits.check1 Four.rooms Limits.rooms Four.blanks Limits.blanks Four.limits Limits.limits
   same_check1 =
       let n = d.components.count in
-      let blank = ap (all Four.blank_part) (rear four behind n d.components.rows) ∙ all_mapped behind Four.blank_part blank_component same_blank (drop n d.components.rows) in
-      let fits = ap (λ (p : Plan). all Four.part_fits p.parts) (lists_same d) ∙ all_mapped four Four.part_fits component_fits same_fits (lists_of d).parts in
+      let blank = ap (list_all Four.blank_part) (rear four behind n d.components.rows) ∙ all_mapped behind Four.blank_part blank_component same_blank (drop n d.components.rows) in
+      let fits = ap (λ (p : Plan). list_all Four.part_fits p.parts) (lists_same d) ∙ all_mapped four Four.part_fits component_fits same_fits (lists_of d).parts in
       λ i. (leb d.wires.count 512 && (leb n 128 && leb d.joints.count 1408))
-      && ((all blank_wire (drop d.wires.count d.wires.rows) && (blank i && all blank_joint (drop d.joints.count d.joints.rows)))
-      && (all wire_fits (lists_of d).wires && fits i))
+      && ((list_all blank_wire (drop d.wires.count d.wires.rows) && (blank i && list_all blank_joint (drop d.joints.count d.joints.rows)))
+      && (list_all wire_fits (lists_of d).wires && fits i))
 
 -- ---- rule 5
 

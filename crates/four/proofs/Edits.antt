@@ -6,7 +6,7 @@ use lib.Dec.{leb, ltb, eqb}
 use lib.IntN.{ℤ}
 use lib.ListN.{length, length-map}
 use lib.Signed.{le_z}
-use Rattle.lists.specs.Lists.{any}
+use Rattle.std.specs.List.{list_any}
 use Rattle.lists.specs.First.{first_row}
 use Rattle.lists.proofs.Mapped.{any_mapped, first_mapped}
 use Rattle.edge.specs.Coordinates.{to_ℕ, ranged, size_of}
@@ -68,9 +68,9 @@ module _ (d : Drawing) (t : Tally) where
   touched c {e} f q =
       let D = four_drawing d in
       let cs = (lists_of d).parts in
-      let some = ap (λ (p : Plan). any (Plans.touches (four c)) p.parts) (lists_same d) ∙ any_mapped four (Plans.touches (four c)) (touches c) (same_touch c) cs in
+      let some = ap (λ (p : Plan). list_any (Plans.touches (four c)) p.parts) (lists_same d) ∙ any_mapped four (Plans.touches (four c)) (touches c) (same_touch c) cs in
       let row = ap (λ (p : Plan). first_row (Plans.touches (four c)) p.parts) (lists_same d) ∙ first_mapped four (Plans.touches (four c)) (touches c) (same_touch c) cs in
-      (λ i. cond (some i) (Four.refused_at (row i) 6 D t) (q i)) ∙ case (first_row (touches c) cs) (any (touches c) cs)
+      (λ i. cond (some i) (Four.refused_at (row i) 6 D t) (q i)) ∙ case (first_row (touches c) cs) (list_any (touches c) cs)
     where
       case : (r : ℕ) (b : Bool) → cond b (Four.refused_at r 6 (four_drawing d) t) (four_edited f) ≡ four_edited (cond b (Number.refused_at r 6 d t) f)
       case r true = refl

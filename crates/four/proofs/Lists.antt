@@ -3,7 +3,7 @@ use mathlib.Core.List.{List, map}
 use mathlib.Core.Path.{◌≡◌, refl, ap, ◌∙◌}
 use lib.Dec.{eqb}
 use lib.ListN.{length}
-use Rattle.lists.specs.Lists.{keep}
+use Rattle.std.specs.List.{filter}
 use Rattle.lists.proofs.Mapped.{keep_mapped, map_mapped}
 use Rattle.sheet.specs.declared.Component.{Component}
 use Rattle.sheet.specs.Parts.{pads_of}
@@ -17,8 +17,8 @@ use Rattle.four.specs.Listing as Four
 use Rattle.four.specs.Request1.{four}
 use Rattle.four.proofs.Sheets.{fours, same_pads_of, same_joints}
 
-same_powers : (cs : List Component) → Plans.pads_of (keep (λ c. eqb c.kind 0) (map four cs)) ≡ pads_of (keep is_power cs)
-same_powers cs = ap Plans.pads_of (keep_mapped four (λ c. eqb c.kind 0) is_power (λ c. refl) cs) ∙ same_pads_of (keep is_power cs)
+same_powers : (cs : List Component) → Plans.pads_of (filter (λ c. eqb c.kind 0) (map four cs)) ≡ pads_of (filter is_power cs)
+same_powers cs = ap Plans.pads_of (keep_mapped four (λ c. eqb c.kind 0) is_power (λ c. refl) cs) ∙ same_pads_of (filter is_power cs)
 
 same_numbers : (s : Sheet) → Four.net_numbers (fours s) ≡ net_numbers s
 unfolding Four.net_numbers net_numbers

@@ -5,7 +5,7 @@ use mathlib.Core.Bool.{Bool, true, false, cond, not}
 use mathlib.Core.List.{List, [], ◌∷◌, map}
 use mathlib.Core.Path.{◌≡◌, refl, sym, ap, ◌∙◌}
 use lib.ListN.{length, length-map}
-use Rattle.lists.specs.Lists.{any, keep}
+use Rattle.std.specs.List.{list_any, filter}
 use Rattle.lists.proofs.Mapped.{any_mapped, keep_mapped, insert_mapped, gather_mapped, map_mapped}
 use Rattle.orientation.specs.declared.RotMirror.{RotMirror}
 use Rattle.orientation.specs.Orientations.{turn_by, rights, mirrors, right_of, mirror_of}
@@ -72,8 +72,8 @@ same_remove : (f : Wire → Bool) (g : Part → Bool) (h : Component → Bool) �
 unfolding FourEdits.remove Edits.remove
 same_remove f g h e s =
     let kept = keep_mapped four (λ c. not (g c)) (λ c. not (h c)) (λ c. ap not (e c)) s.parts in
-    let ws = keep (λ w. not (f w)) s.wires in
-    λ i. record { wires = merge ws ((ap Four.pads_of kept ∙ same_pads_of (keep (λ c. not (h c)) s.parts)) i); parts = kept i }
+    let ws = filter (λ w. not (f w)) s.wires in
+    λ i. record { wires = merge ws ((ap Four.pads_of kept ∙ same_pads_of (filter (λ c. not (h c)) s.parts)) i); parts = kept i }
 
 same_meets : (p : Point) (n : ℕ) (c : Component) → FourEdits.meets_part p n (four c) ≡ Edits.meets_part p n c
 unfolding Edits.meets_part Number.box
@@ -95,7 +95,7 @@ unfolding FourEdits.place_all Edits.place_all
 same_place_all [] s = refl
 same_place_all (c ∷ cs) s =
     (λ i. cond (any_mapped four (Four.touches (four c)) (Number.touches c) (same_touch c) s.parts i) (FourEdits.gone (same_place_all cs s i)) ((ap (FourEdits.place_all (map four cs)) (same_place c s) ∙ same_place_all cs (Edits.place_one c s)) i))
-    ∙ case (any (Number.touches c) s.parts)
+    ∙ case (list_any (Number.touches c) s.parts)
   where
     case : (b : Bool) → cond b (FourEdits.gone (four_placed (Edits.place_all cs s))) (four_placed (Edits.place_all cs (Edits.place_one c s))) ≡ four_placed (cond b (Edits.gone (Edits.place_all cs s)) (Edits.place_all cs (Edits.place_one c s)))
     case true = refl
@@ -114,10 +114,10 @@ module _ (f : RotMirror → RotMirror) (t : List ℕ) (e : Follows f t) (p : Poi
   same_turned : FourEdits.turn (FourEdits.hits p n) (Four.reoriented f) (fours s) ≡ four_outcome (Edits.turn (Edits.hits p n) alter s)
   unfolding FourEdits.turn Edits.turn
   same_turned =
-      let h = keep (Edits.hits p n) s.parts in
-      let kept : keep (FourEdits.hits p n) (map four s.parts) ≡ map four h = keep_mapped four (FourEdits.hits p n) (Edits.hits p n) (same_hits p n) s.parts in
+      let h = filter (Edits.hits p n) s.parts in
+      let kept : filter (FourEdits.hits p n) (map four s.parts) ≡ map four h = keep_mapped four (FourEdits.hits p n) (Edits.hits p n) (same_hits p n) s.parts in
       let out = same_remove (λ w. false) (FourEdits.hits p n) (Edits.hits p n) (same_hits p n) s in
-      let done : FourEdits.place_all (map (Four.reoriented f) (keep (FourEdits.hits p n) (map four s.parts))) (FourEdits.remove (λ w. false) (FourEdits.hits p n) (fours s)) ≡ four_placed (Edits.place_all (map alter h) (Edits.remove (λ w. false) (Edits.hits p n) s)) =
+      let done : FourEdits.place_all (map (Four.reoriented f) (filter (FourEdits.hits p n) (map four s.parts))) (FourEdits.remove (λ w. false) (FourEdits.hits p n) (fours s)) ≡ four_placed (Edits.place_all (map alter h) (Edits.remove (λ w. false) (Edits.hits p n) s)) =
       (λ i. FourEdits.place_all ((ap (map (Four.reoriented f)) kept ∙ again h) i) (out i)) ∙ same_place_all (map alter h) (Edits.remove (λ w. false) (Edits.hits p n) s)
       in
       λ i. record { plan = (done i).plan; hit = (ap length kept ∙ length-map h four) i; lost = (done i).lost }

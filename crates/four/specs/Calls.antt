@@ -2,7 +2,7 @@
 -- "Order: 10, 9, 4, 1, 2, 3, 5, 6, 7, 8; the first that applies.", with 11 "straight after 7" (document 02, P4).
 use Rattle.std.specs.Prelude.{ℕ, Bool, ◌&&◌, cond, List, [], map, leb, eqb, ℤ, length}
 use Rattle.std.specs.Int.Signed.{le_z}
-use Rattle.lists.specs.Lists.{any}
+use Rattle.std.specs.List.{list_any}
 use Rattle.lists.specs.First.{first_row}
 use Rattle.edge.specs.Coordinates.{to_ℕ, biased, ranged, size_of}
 use Rattle.orientation.specs.declared.RotMirror.{RotMirror}
@@ -105,7 +105,7 @@ part_at kind o x y label = record { kind = kind; turn = o; x = biased x; y = bia
 abbrev pub refused_touching : Part → Drawing → Tally → Edited → Edited
 refused_touching c d t other =
     let placed = (lists_of d).parts in
-    cond (any (touches c) placed) (refused_at (first_row (touches c) placed) 6 d t) other
+    cond (list_any (touches c) placed) (refused_at (first_row (touches c) placed) 6 d t) other
 
 -- "Place.": 4, 1, 5, 6, then the edit
 unfoldable pub add_component : Drawing → ℕ → RotMirror → ℤ → ℤ → Label → Tally → Edited

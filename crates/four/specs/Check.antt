@@ -1,7 +1,8 @@
 -- The drawing check under the four numbers: "names the first broken rule in this order". The tests of wires and points alone are those of
 -- `limits`, `row_order` and `rules`.
 use Rattle.std.specs.Prelude.{ℕ, suc, Bool, true, ◌&&◌, cond, List, [], ◌∷◌, eqb, leb, drop}
-use Rattle.lists.specs.Lists.{all, links}
+use Rattle.lists.specs.Lists.{links}
+use Rattle.std.specs.List.{list_all}
 use Rattle.edge.specs.Coordinates.{is_position}
 use Rattle.orientation.specs.declared.RotMirror.{RotMirror}
 use Rattle.orientation.specs.Orientations.{known, zeros, same_of}
@@ -38,13 +39,13 @@ rooms d = leb d.wires.count 512 && (leb d.components.count 128 && leb d.joints.c
 -- "rows beyond the counts are all zero"
 unfoldable pub blanks : Drawing → Bool
 blanks d =
-    all blank_wire (drop d.wires.count d.wires.rows)
-    && (all blank_part (drop d.components.count d.components.rows)
-    && all blank_joint (drop d.joints.count d.joints.rows))
+    list_all blank_wire (drop d.wires.count d.wires.rows)
+    && (list_all blank_part (drop d.components.count d.components.rows)
+    && list_all blank_joint (drop d.joints.count d.joints.rows))
 
 -- "each wire and component meets the limits"
 unfoldable pub limits : Drawing → Bool
-limits d = all wire_fits (lists_of d).wires && all part_fits (lists_of d).parts
+limits d = list_all wire_fits (lists_of d).wires && list_all part_fits (lists_of d).parts
 
 unfoldable pub check1 : Drawing → Bool
 check1 d = rooms d && (blanks d && limits d)

@@ -1,6 +1,6 @@
 -- The wiring list of a plan (document 01, "Nets and the list"), and its loose pads (document 02, P2).
 use Rattle.std.specs.Prelude.{ℕ, List, map, eqb, length}
-use Rattle.lists.specs.Lists.{keep}
+use Rattle.std.specs.List.{filter}
 use Rattle.label.specs.Labels.{label_part}
 use Rattle.symbol.specs.declared.Point.{Point}
 use Rattle.nets.specs.Nets.{Net}
@@ -12,7 +12,7 @@ use Rattle.four.specs.Plans.{Part, Plan, pads_of, joints}
 
 -- what joins the points of a plan: the wires and the power pads
 abbrev pub net_on : Plan → Net Point
-net_on s = record { links = map ends_of s.wires; powers = pads_of (keep (λ c. eqb c.kind 0) s.parts) }
+net_on s = record { links = map ends_of s.wires; powers = pads_of (filter (λ c. eqb c.kind 0) s.parts) }
 
 -- the net numbers of all pads, "going through the components in row order and each one's pads in symbol order"
 unfoldable pub net_numbers : Plan → List ℕ

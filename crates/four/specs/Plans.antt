@@ -1,7 +1,7 @@
 -- The drawing under the four numbers, in document 01's wording: a component's orientation is "four signed numbers that are one of the
 -- eight". Wires, joints and all that is said of them alone are `sheet`'s; a plan is what `sheet` calls a sheet.
 use Rattle.std.specs.Prelude.{ℕ, Bool, List, length, take, replicate}
-use Rattle.lists.specs.Lists.{gather}
+use Rattle.std.specs.List.{flat_map}
 use Rattle.lists.specs.Tables.{pad}
 use Rattle.orientation.specs.declared.RotMirror.{RotMirror}
 use Rattle.orientation.specs.Orientations.{zeros}
@@ -38,7 +38,7 @@ abbrev pub pads : Part → List Point
 pads c = pad_points c.kind c.turn c.x c.y
 
 abbrev pub pads_of : List Part → List Point
-pads_of cs = gather pads cs
+pads_of cs = flat_map pads cs
 
 abbrev pub touches : Part → Part → Bool
 touches b c = touches_of (box b) (box c)

@@ -11,7 +11,8 @@ use native.Mathlib.Omega.{arith}
 use lib.ListN.{length, take, length-append}
 use lib.Seq.{take-append-le, take-append-add}
 use borrow.Author.Tests.{le-leb}
-use Rattle.lists.specs.Lists.{◌∈◌, gather}
+use Rattle.lists.specs.Lists.{◌∈◌}
+use Rattle.std.specs.List.{flat_map}
 use Rattle.lists.proofs.Lists.{in_cons}
 use Rattle.lists.proofs.Tests.{decide, ltb_reads, leb_reads, and_reads}
 use Rattle.groups.specs.Taken.{Taken, took, then, short, times}
@@ -90,32 +91,32 @@ module _ {A : Type 0} {Ok : A → Type 0} {w : A → List ℕ} {f : List ℕ →
   abbrev pub Right : ℕ → List A → Type 0
   Right n xs = (length xs ≡ n) × ((x : A) → x ∈ xs → Ok x)
 
-  times_back : (n : ℕ) (xs : List A) (rest : List ℕ) → Right n xs → times f n (gather w xs ++ rest) ≡ took xs rest
-  unfolding times then gather
+  times_back : (n : ℕ) (xs : List A) (rest : List ℕ) → Right n xs → times f n (flat_map w xs ++ rest) ≡ took xs rest
+  unfolding times then
   times_back zero [] rest h = refl
   times_back zero (x ∷ xs) rest h = absurd (omega (arith, h.0))
   times_back (suc n) [] rest h = absurd (omega (arith, h.0))
   times_back (suc n) (x ∷ xs) rest h =
-      let ih : times f n (gather w xs ++ rest) ≡ took xs rest = times_back n xs rest (omega (arith, h.0), λ y m. h.1 y (∈-tail m)) in
-      rw (append_assoc (w x) (gather w xs) rest, c.back x (gather w xs ++ rest) (h.1 x (∈-head refl)), ih)
+      let ih : times f n (flat_map w xs ++ rest) ≡ took xs rest = times_back n xs rest (omega (arith, h.0), λ y m. h.1 y (∈-tail m)) in
+      rw (append_assoc (w x) (flat_map w xs) rest, c.back x (flat_map w xs ++ rest) (h.1 x (∈-head refl)), ih)
 
-  times_only : (n : ℕ) (s : List ℕ) → Bytes s → Told (Only (Right n) (gather w) s) (times f n s)
-  unfolding times gather
+  times_only : (n : ℕ) (s : List ℕ) → Bytes s → Told (Only (Right n) (flat_map w) s) (times f n s)
+  unfolding times
   times_only zero s h = told (record { is = refl; ok = (refl, λ x m. absurd (∈-nil m)); bytes = h })
   times_only (suc n) s h =
       told_then (c.only s h) (λ x r o. told_then (times_only n r o.bytes) (λ xs q p. told (record {
-        is = o.is ∙ ap (λ l. w x ++ l) p.is ∙ sym (append_assoc (w x) (gather w xs) q);
+        is = o.is ∙ ap (λ l. w x ++ l) p.is ∙ sym (append_assoc (w x) (flat_map w xs) q);
         ok = (ap suc p.ok.0, λ y m. in_cons Ok o.ok p.ok.1 m);
         bytes = p.bytes;
       })))
 
-  times_cut : (n : ℕ) (xs : List A) → Right n xs → (k : ℕ) → k < length (gather w xs) → times f n (take k (gather w xs)) ≡ short
-  unfolding times then gather
+  times_cut : (n : ℕ) (xs : List A) → Right n xs → (k : ℕ) → k < length (flat_map w xs) → times f n (take k (flat_map w xs)) ≡ short
+  unfolding times then
   times_cut n [] h k d = absurd (omega arith)
   times_cut zero (x ∷ xs) h k d = absurd (omega (arith, h.0))
   times_cut (suc n) (x ∷ xs) h k d =
       let right : Right n xs = (omega (arith, h.0), λ y m. h.1 y (∈-tail m)) in
-      cut_then _ c x (h.1 x (∈-head refl)) (gather w xs) (λ j e. ap (λ t. then t (λ ys. took (x ∷ ys))) (times_cut n xs right j e)) k d
+      cut_then _ c x (h.1 x (∈-head refl)) (flat_map w xs) (λ j e. ap (λ t. then t (λ ys. took (x ∷ ys))) (times_cut n xs right j e)) k d
 
-  pub times_codes : (n : ℕ) → Codes (Right n) (gather w) (times f n)
+  pub times_codes : (n : ℕ) → Codes (Right n) (flat_map w) (times f n)
   times_codes n = record { back = times_back n; cut = times_cut n; only = times_only n }

@@ -6,7 +6,7 @@ use mathlib.Core.List.{List, [], ◌∷◌, ◌++◌, map, map-append, append_as
 use mathlib.Core.Path.{◌≡◌, refl, sym, ap, ap₂, subst, ◌∙◌}
 use lib.ListN.{length, take, get_or, set, length-set, length-take, length-append}
 use lib.Seq.{get_or-take}
-use Rattle.lists.specs.Lists.{keep}
+use Rattle.std.specs.List.{filter}
 use Rattle.lists.proofs.Pushes.{take_push}
 use Rattle.lists.proofs.Passes.{take_more}
 use Rattle.lists.proofs.Finding.{maps_at}
@@ -76,13 +76,13 @@ ends_few ws h b = omega (arith, h.count_is, length_ends ws)
 pub marks_few : (ws : List Wire) (ps : List Point) {t : Keys} → Keyed (marks ws ps) t → length ws ≤ 512 → length ps ≤ 384 → t.count ≤ 1408
 marks_few ws ps h a b = omega (arith, h.count_is, length-append (ends ws) ps, length_ends ws)
 
-number_spots : (p : Point) (ks : List ℕ) → number p (map spot ks) ≡ length (keep (λ k. same p (spot k)) ks)
-unfolding number keep
+number_spots : (p : Point) (ks : List ℕ) → number p (map spot ks) ≡ length (filter (λ k. same p (spot k)) ks)
+unfolding number
 number_spots p [] = refl
 number_spots p (k ∷ ks) = step (same p (spot k)) (number_spots p ks)
   where
-    step : (b : Bool) → number p (map spot ks) ≡ length (keep (λ k. same p (spot k)) ks)
-        → cond b (suc (number p (map spot ks))) (number p (map spot ks)) ≡ length (cond b (k ∷ keep (λ k. same p (spot k)) ks) (keep (λ k. same p (spot k)) ks))
+    step : (b : Bool) → number p (map spot ks) ≡ length (filter (λ k. same p (spot k)) ks)
+        → cond b (suc (number p (map spot ks))) (number p (map spot ks)) ≡ length (cond b (k ∷ filter (λ k. same p (spot k)) ks) (filter (λ k. same p (spot k)) ks))
     step true e = ap suc e
     step false e = e
 

@@ -9,7 +9,7 @@ use lib.Dec.{leb}
 use lib.ListN.{length, get_or, set, take, drop, length-take, drop_of_length-le}
 use lib.Seq.{drop-cons, get_or-take}
 use borrow.Author.Tests.{le-leb, lt-leb}
-use Rattle.lists.specs.Lists.{all}
+use Rattle.std.specs.List.{list_all}
 use Rattle.label.specs.Labels.{graphic, padded, given, judged, held_label}
 use Rattle.label.specs.declared.Label.{Label}
 
@@ -41,28 +41,26 @@ of_first (suc n) (b ∷ l) = ap {B = List ℕ} (λ r. b ∷ r) (of_first n l)
 
 -- ---- the first n bytes of g, tested one at a time
 module _ (g : List ℕ) (n : ℕ) (fits : n ≤ length g) where
-  pub test_next : (i : ℕ) → i < n → all graphic (drop i (take n g)) ≡ (graphic (get_or g i 0) && all graphic (drop (i + 1) (take n g)))
-  unfolding all
+  pub test_next : (i : ℕ) → i < n → list_all graphic (drop i (take n g)) ≡ (graphic (get_or g i 0) && list_all graphic (drop (i + 1) (take n g)))
   test_next i h =
       let k : i < length (take n g) = simp length-take (omega arith) in
       rw (drop-cons (take n g) i 0 k, get_or-take, add-one)
 
-  pub test_end : all graphic (drop n (take n g)) ≡ true
-  unfolding all
-  test_end = ap (all graphic) (drop_of_length-le (take n g) {i = n} (simp length-take (omega arith)))
+  pub test_end : list_all graphic (drop n (take n g)) ≡ true
+  test_end = ap (list_all graphic) (drop_of_length-le (take n g) {i = n} (simp length-take (omega arith)))
 
 -- ---- the ways out
 module _ (l : Label) where
-  way : (t : Bool) → (leb l.length 16 && all graphic (given l)) ≡ t → judged t (given l) ≡ held_label l
+  way : (t : Bool) → (leb l.length 16 && list_all graphic (given l)) ≡ t → judged t (given l) ≡ held_label l
   unfolding held_label
   way t e = sym (λ i. judged (e i) (given l))
 
   pub too_long : 16 < l.length → judged false [] ≡ held_label l
-  too_long h = way false (λ i. lt-leb l.length 16 h i && all graphic (given l))
+  too_long h = way false (λ i. lt-leb l.length 16 h i && list_all graphic (given l))
 
   module _ (h : l.length ≤ 16) where
-    pub another_byte : all graphic (given l) ≡ false → judged false [] ≡ held_label l
+    pub another_byte : list_all graphic (given l) ≡ false → judged false [] ≡ held_label l
     another_byte e = way false (λ i. le-leb l.length 16 h i && e i)
 
-    pub accepted : {bytes : List ℕ} → all graphic (given l) ≡ true → bytes ≡ padded 16 (given l) → record { reply = 0; bytes = bytes } ≡ held_label l
+    pub accepted : {bytes : List ℕ} → list_all graphic (given l) ≡ true → bytes ≡ padded 16 (given l) → record { reply = 0; bytes = bytes } ≡ held_label l
     accepted e f = (λ i. record { reply = 0; bytes = f i }) ∙ way true (λ i. le-leb l.length 16 h i && e i)

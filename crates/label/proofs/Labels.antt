@@ -8,7 +8,7 @@ use mathlib.Core.List.{List, [], ◌∷◌}
 use lib.Dec.{eqb}
 use lib.ListN.{length, get_or, take, drop, drop_of_length-le}
 use borrow.Author.Tests.{eq-eqb, ne_eqb}
-use Rattle.lists.specs.Lists.{all}
+use Rattle.std.specs.List.{list_all}
 use Rattle.label.specs.Labels.{take_while, label_part, graphic, all_zero, label_ok}
 
 -- ---- the leading part: no zero below i, and a zero, or the end, at i
@@ -23,7 +23,6 @@ leading (b ∷ l) (suc i) f e =
 
 -- ---- the bytes from k on are zero
 zero_step : (l : List ℕ) (k : ℕ) → all_zero (drop k l) ≡ (eqb (get_or l k 0) 0 && all_zero (drop (suc k) l))
-unfolding all
 zero_step [] zero = refl
 zero_step [] (suc k) = refl
 zero_step (b ∷ l) zero = refl
@@ -36,12 +35,11 @@ pub no_zero : (l : List ℕ) (k : ℕ) → (get_or l k 0 ≡ 0 → ⊥) → all_
 no_zero l k f = zero_step l k ∙ (λ i. ne_eqb (get_or l k 0) 0 f i && all_zero (drop (suc k) l))
 
 pub zero_end : (l : List ℕ) (k : ℕ) → length l ≤ k → all_zero (drop k l) ≡ true
-unfolding all
 zero_end l k h = ap all_zero (drop_of_length-le l h)
 
 -- ---- the bytes from k on are a label's
 ok_step : (l : List ℕ) (k : ℕ) → label_ok (drop k l) ≡ cond (graphic (get_or l k 0)) (label_ok (drop (suc k) l)) (all_zero (drop k l))
-unfolding label_ok all
+unfolding label_ok
 ok_step [] zero = refl
 ok_step [] (suc k) = refl
 ok_step (b ∷ l) zero = refl

@@ -1,6 +1,6 @@
 -- Labels: as a caller gives them, as rows hold them, and as they come back.
 use Rattle.std.specs.Prelude.{ℕ, zero, suc, Bool, true, false, not, ◌&&◌, cond, List, [], ◌∷◌, leb, eqb, length, take}
-use Rattle.lists.specs.Lists.{all}
+use Rattle.std.specs.List.{list_all}
 use Rattle.label.specs.declared.Label.{Label}
 use Rattle.label.specs.declared.Held.{Held}
 
@@ -29,13 +29,13 @@ judged false bs = record { reply = 5; bytes = padded 16 [] }
 
 -- the label as rows hold it, or 5
 unfoldable pub held_label : Label → Held
-held_label l = judged (leb l.length 16 && all graphic (given l)) (given l)
+held_label l = judged (leb l.length 16 && list_all graphic (given l)) (given l)
 
 -- ---- a label as rows hold it
 
 -- "zeros behind"
 abbrev pub all_zero : List ℕ → Bool
-all_zero bs = all (λ b. eqb b 0) bs
+all_zero bs = list_all (λ b. eqb b 0) bs
 
 -- bytes that a label may have, and then zeros
 unfoldable pub label_ok : List ℕ → Bool

@@ -4,7 +4,8 @@ use mathlib.Core.Bool.{Bool, true, false, ◌&&◌}
 use mathlib.Core.Path.{◌≡◌, sym, subst}
 use lib.Dec.{T}
 use lib.ListN.{drop}
-use Rattle.lists.specs.Lists.{◌∈◌, all}
+use Rattle.lists.specs.Lists.{◌∈◌}
+use Rattle.std.specs.List.{list_all}
 use Rattle.lists.proofs.Tests.{both, holds, and_reads, leb_reads}
 use Rattle.lists.proofs.Lists.{all_reads}
 use Rattle.sheet.specs.declared.Component.{Component}
@@ -31,8 +32,8 @@ unfolding check1
 out_of_rooms d e = rw e
 
 pub rule_1_parts : (d : Drawing) {a b c e f : Bool} → rooms d ≡ true
-    → a ≡ all blank_wire (drop d.wires.count d.wires.rows) → b ≡ all blank_component (drop d.components.count d.components.rows) → c ≡ all blank_joint (drop d.joints.count d.joints.rows)
-    → e ≡ all wire_fits (lists_of d).wires → f ≡ all component_fits (lists_of d).parts → ((a && (b && c)) && (e && f)) ≡ check1 d
+    → a ≡ list_all blank_wire (drop d.wires.count d.wires.rows) → b ≡ list_all blank_component (drop d.components.count d.components.rows) → c ≡ list_all blank_joint (drop d.joints.count d.joints.rows)
+    → e ≡ list_all wire_fits (lists_of d).wires → f ≡ list_all component_fits (lists_of d).parts → ((a && (b && c)) && (e && f)) ≡ check1 d
 unfolding check1 blanks limits
 rule_1_parts d h p q r s t = rw h (λ i. (p i && (q i && r i)) && (s i && t i))
 

@@ -1,7 +1,7 @@
 -- The test of rule 1: "counts are within the rooms, rows beyond the counts are all zero, and each wire and component meets the limits,
 -- a wire with start < end".
 use Rattle.std.specs.Prelude.{Bool, ◌&&◌, not, eqb, ltb, leb, drop}
-use Rattle.lists.specs.Lists.{all}
+use Rattle.std.specs.List.{list_all}
 use Rattle.edge.specs.Coordinates.{is_position}
 use Rattle.label.specs.Labels.{label_ok, all_zero}
 use Rattle.symbol.specs.Symbols.{known_symbol}
@@ -38,13 +38,13 @@ rooms d = leb d.wires.count 512 && (leb d.components.count 128 && leb d.joints.c
 -- "rows beyond the counts are all zero"
 unfoldable pub blanks : Drawing → Bool
 blanks d =
-    all blank_wire (drop d.wires.count d.wires.rows)
-    && (all blank_component (drop d.components.count d.components.rows)
-    && all blank_joint (drop d.joints.count d.joints.rows))
+    list_all blank_wire (drop d.wires.count d.wires.rows)
+    && (list_all blank_component (drop d.components.count d.components.rows)
+    && list_all blank_joint (drop d.joints.count d.joints.rows))
 
 -- "each wire and component meets the limits"
 unfoldable pub limits : Drawing → Bool
-limits d = all wire_fits (lists_of d).wires && all component_fits (lists_of d).parts
+limits d = list_all wire_fits (lists_of d).wires && list_all component_fits (lists_of d).parts
 
 -- rule 1
 unfoldable pub check1 : Drawing → Bool

@@ -2,7 +2,7 @@
 #![tactic(auto)]
 
 ghost use Rattle.std.specs.Prelude.{◌≡◌, ◌≤◌, drop};
-ghost use Rattle.lists.specs.Lists.{all};
+ghost use Rattle.std.specs.List.{list_all};
 ghost use Rattle.sheet.specs.Drawings.{wire_rows, component_rows};
 ghost use Rattle.limits.specs.Limits.{blank_wire, blank_component, blank_joint, wire_fits, component_fits, rooms, check1};
 
@@ -45,7 +45,7 @@ fn component_fits(c: Component) -> bool
 }
 
 fn wires_blank(ws: Wires) -> bool
-    ensures { result ≡ all blank_wire (drop ws.count ws.rows) }
+    ensures { result ≡ list_all blank_wire (drop ws.count ws.rows) }
 {
     let mut i = ws.count;
     while i < 512 {
@@ -59,7 +59,7 @@ fn wires_blank(ws: Wires) -> bool
 }
 
 fn components_blank(cs: Components) -> bool
-    ensures { result ≡ all blank_component (drop cs.count cs.rows) }
+    ensures { result ≡ list_all blank_component (drop cs.count cs.rows) }
 {
     let mut i = cs.count;
     while i < 128 {
@@ -73,7 +73,7 @@ fn components_blank(cs: Components) -> bool
 }
 
 fn joints_blank(js: Joints) -> bool
-    ensures { result ≡ all blank_joint (drop js.count js.rows) }
+    ensures { result ≡ list_all blank_joint (drop js.count js.rows) }
 {
     let mut i = js.count;
     while i < 1408 {
@@ -88,7 +88,7 @@ fn joints_blank(js: Joints) -> bool
 
 fn wires_fit(ws: Wires) -> bool
     requires { ws.count ≤ 512 }
-    ensures { result ≡ all wire_fits (wire_rows ws) }
+    ensures { result ≡ list_all wire_fits (wire_rows ws) }
 {
     let n = ws.count;
     let mut i = 0;
@@ -104,7 +104,7 @@ fn wires_fit(ws: Wires) -> bool
 
 fn components_fit(cs: Components) -> bool
     requires { cs.count ≤ 128 }
-    ensures { result ≡ all component_fits (component_rows cs) }
+    ensures { result ≡ list_all component_fits (component_rows cs) }
 {
     let n = cs.count;
     let mut i = 0;

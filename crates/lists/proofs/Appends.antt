@@ -7,34 +7,32 @@ use mathlib.Core.List.{List, [], ◌∷◌, ◌++◌, append_assoc}
 use mathlib.Core.Path.{◌≡◌, refl, sym, ap, ◌∙◌}
 use native.Mathlib.Omega.{arith}
 use lib.ListN.{length, length-append}
-use Rattle.lists.specs.Lists.{◌∈◌, any, keep, insert, gather}
+use Rattle.lists.specs.Lists.{◌∈◌, insert}
+use Rattle.std.specs.List.{list_any, filter, flat_map}
 use Rattle.lists.proofs.Tests.{Reads, test, choose}
 
 module _ {A : Type 0} where
   -- ---- one list behind another, for loops that go row by row
 
-  pub any_append : (f : A → Bool) (xs ys : List A) → any f (xs ++ ys) ≡ any f xs || any f ys
-  unfolding any
+  pub any_append : (f : A → Bool) (xs ys : List A) → list_any f (xs ++ ys) ≡ list_any f xs || list_any f ys
   any_append f [] ys = refl
   any_append f (x ∷ xs) ys = step (f x) (any_append f xs ys)
     where
-      step : (b : Bool) → any f (xs ++ ys) ≡ any f xs || any f ys → (b || any f (xs ++ ys)) ≡ ((b || any f xs) || any f ys)
+      step : (b : Bool) → list_any f (xs ++ ys) ≡ list_any f xs || list_any f ys → (b || list_any f (xs ++ ys)) ≡ ((b || list_any f xs) || list_any f ys)
       step true e = refl
       step false e = e
 
-  pub keep_append : (f : A → Bool) (xs ys : List A) → keep f (xs ++ ys) ≡ keep f xs ++ keep f ys
-  unfolding keep
+  pub keep_append : (f : A → Bool) (xs ys : List A) → filter f (xs ++ ys) ≡ filter f xs ++ filter f ys
   keep_append f [] ys = refl
   keep_append f (x ∷ xs) ys = step (f x) (keep_append f xs ys)
     where
-      step : (b : Bool) → keep f (xs ++ ys) ≡ keep f xs ++ keep f ys → cond b (x ∷ keep f (xs ++ ys)) (keep f (xs ++ ys)) ≡ cond b (x ∷ keep f xs) (keep f xs) ++ keep f ys
+      step : (b : Bool) → filter f (xs ++ ys) ≡ filter f xs ++ filter f ys → cond b (x ∷ filter f (xs ++ ys)) (filter f (xs ++ ys)) ≡ cond b (x ∷ filter f xs) (filter f xs) ++ filter f ys
       step true e = ap {B = List A} (λ l. x ∷ l) e
       step false e = e
 
-  pub gather_append : {B : Type 0} (f : A → List B) (xs ys : List A) → gather f (xs ++ ys) ≡ gather f xs ++ gather f ys
-  unfolding gather
+  pub gather_append : {B : Type 0} (f : A → List B) (xs ys : List A) → flat_map f (xs ++ ys) ≡ flat_map f xs ++ flat_map f ys
   gather_append f [] ys = refl
-  gather_append f (x ∷ xs) ys = ap (λ l. f x ++ l) (gather_append f xs ys) ∙ sym (append_assoc (f x) (gather f xs) (gather f ys))
+  gather_append f (x ∷ xs) ys = ap (λ l. f x ++ l) (gather_append f xs ys) ∙ sym (append_assoc (f x) (flat_map f xs) (flat_map f ys))
 
   -- past the rows that x does not come before, and no further
   module _ (f : A → A → Bool) (x : A) {P : A → Type 0} (r : (y : A) → Reads (P y) (f x y)) where
@@ -50,23 +48,20 @@ module _ {A : Type 0} where
 
   -- ---- lengths
 
-  pub length_gather : {B : Type 0} (f : A → List B) → ((x : A) → length (f x) ≤ 3) → (xs : List A) → length (gather f xs) ≤ 3 * length xs
-  unfolding gather
+  pub length_gather : {B : Type 0} (f : A → List B) → ((x : A) → length (f x) ≤ 3) → (xs : List A) → length (flat_map f xs) ≤ 3 * length xs
   length_gather f h [] = omega arith
-  length_gather f h (x ∷ xs) = omega (arith, h x, length_gather f h xs, length-append (f x) (gather f xs))
+  length_gather f h (x ∷ xs) = omega (arith, h x, length_gather f h xs, length-append (f x) (flat_map f xs))
 
-  pub length_keep : (f : A → Bool) (xs : List A) → length (keep f xs) ≤ length xs
-  unfolding keep
+  pub length_keep : (f : A → Bool) (xs : List A) → length (filter f xs) ≤ length xs
   length_keep f [] = omega arith
-  length_keep f (x ∷ xs) = let ih = length_keep f xs in choose (test (f x)) (λ (l : List A). length l ≤ suc (length xs)) {x = x ∷ keep f xs} {y = keep f xs} (λ t. omega arith) (λ n. omega arith)
+  length_keep f (x ∷ xs) = let ih = length_keep f xs in choose (test (f x)) (λ (l : List A). length l ≤ suc (length xs)) {x = x ∷ filter f xs} {y = filter f xs} (λ t. omega arith) (λ n. omega arith)
 
-  pub length_parts : (f : A → Bool) (xs : List A) → length (keep (λ x. not (f x)) xs) + length (keep f xs) ≡ length xs
-  unfolding keep
+  pub length_parts : (f : A → Bool) (xs : List A) → length (filter (λ x. not (f x)) xs) + length (filter f xs) ≡ length xs
   length_parts f [] = refl
   length_parts f (x ∷ xs) = step (f x) (length_parts f xs)
     where
-      step : (b : Bool) → length (keep (λ y. not (f y)) xs) + length (keep f xs) ≡ length xs
-          → length (cond (not b) (x ∷ keep (λ y. not (f y)) xs) (keep (λ y. not (f y)) xs)) + length (cond b (x ∷ keep f xs) (keep f xs)) ≡ suc (length xs)
+      step : (b : Bool) → length (filter (λ y. not (f y)) xs) + length (filter f xs) ≡ length xs
+          → length (cond (not b) (x ∷ filter (λ y. not (f y)) xs) (filter (λ y. not (f y)) xs)) + length (cond b (x ∷ filter f xs) (filter f xs)) ≡ suc (length xs)
       step true ih = omega arith
       step false ih = omega arith
 

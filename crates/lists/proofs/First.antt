@@ -12,15 +12,16 @@ use borrow.Author.Tests.{ltb-true, eqb-true, lt-ltb, eq-eqb}
 use lib.Dec.{ltb, eqb}
 use lib.ListN.{length, get_or, take}
 use lib.Seq.{length-take-le}
-use Rattle.lists.specs.Lists.{◌∈◌, any}
+use Rattle.lists.specs.Lists.{◌∈◌}
+use Rattle.std.specs.List.{list_any}
 use Rattle.lists.specs.Span.{span}
 use Rattle.lists.specs.First.{FirstAt, now, next, first_row}
 use Rattle.lists.proofs.Tests.{Reads, pass, fail, decide, same_test, eqb_reads, ltb_reads, both, clash}
 use Rattle.lists.proofs.Walks.{Searched, span_start, span_next, span_stop, span_end}
 
 module _ {A : Type 0} (f : A → Bool) where
-  pub first_reads : (xs : List A) → Reads (first_row f xs < length xs) (any f xs)
-  unfolding any span
+  pub first_reads : (xs : List A) → Reads (first_row f xs < length xs) (list_any f xs)
+  unfolding span
   first_reads [] = fail (λ h. omega arith)
   first_reads (x ∷ xs) = step (f x) (first_reads xs)
     where
@@ -30,15 +31,15 @@ module _ {A : Type 0} (f : A → Bool) where
       step false (fail n) = fail (λ h. n (le_of_suc-le-suc h))
 
   -- among the first n rows of a table
-  pub first_below : (l : List A) (n : ℕ) {row : ℕ} → row ≡ first_row f (take n l) → n ≤ length l → ltb row n ≡ any f (take n l)
-  first_below l n {row} e h = same_test (ltb_reads row n) (subst (λ i. Reads (i < n) (any f (take n l))) (sym e) (subst (λ m. Reads (first_row f (take n l) < m) (any f (take n l))) (length-take-le n l h) (first_reads (take n l))))
+  pub first_below : (l : List A) (n : ℕ) {row : ℕ} → row ≡ first_row f (take n l) → n ≤ length l → ltb row n ≡ list_any f (take n l)
+  first_below l n {row} e h = same_test (ltb_reads row n) (subst (λ i. Reads (i < n) (list_any f (take n l))) (sym e) (subst (λ m. Reads (first_row f (take n l) < m) (list_any f (take n l))) (length-take-le n l h) (first_reads (take n l))))
 
-  pub first_row_lem : {P : A → Type 0} → ((x : A) → Reads (P x) (f x)) → (xs : List A) → any f xs ≡ true → FirstAt P xs (first_row f xs)
-  unfolding any span
+  pub first_row_lem : {P : A → Type 0} → ((x : A) → Reads (P x) (f x)) → (xs : List A) → list_any f xs ≡ true → FirstAt P xs (first_row f xs)
+  unfolding span
   first_row_lem test [] e = absurd (clash e refl)
   first_row_lem {P} test (x ∷ xs) e = step (test x) (first_row_lem test xs) e
     where
-      step : {b : Bool} → Reads (P x) b → (any f xs ≡ true → FirstAt P xs (first_row f xs)) → (b || any f xs) ≡ true → FirstAt P (x ∷ xs) (cond (not b) (suc (first_row f xs)) 0)
+      step : {b : Bool} → Reads (P x) b → (list_any f xs ≡ true → FirstAt P xs (first_row f xs)) → (b || list_any f xs) ≡ true → FirstAt P (x ∷ xs) (cond (not b) (suc (first_row f xs)) 0)
       step (pass p) later e = now p
       step (fail n) later e = next n (later e)
 

@@ -11,7 +11,8 @@ use mathlib.Core.List.Memᴰ.{tail as ∈-tail}
 use mathlib.Core.List.{List, [], ◌∷◌}
 use mathlib.Core.Path.{◌≡◌, refl, sym, subst, ap}
 use mathlib.Core.Logic.{⊎_elim, ◌⊎◌, inl, inr}
-use Rattle.lists.specs.Lists.{◌∈◌, Rows, none, more, any, all, pairs, links, keep, insert, gather}
+use Rattle.lists.specs.Lists.{◌∈◌, Rows, none, more, pairs, links, insert}
+use Rattle.std.specs.List.{list_any, list_all, filter, flat_map}
 use Rattle.lists.proofs.Adjacent.{Adjacent, empty, single, link}
 use Rattle.lists.proofs.Tests.{Reads, pass, fail, test, choose, reads_as, and_reads, or_reads}
 
@@ -27,8 +28,7 @@ module _ {A : Type 0} where
   -- ---- tests over a list
 
   module _ {P : A → Type 0} {f : A → Bool} (r : (x : A) → Reads (P x) (f x)) where
-    pub any_reads : (xs : List A) → Reads ((x : A) × x ∈ xs × P x) (any f xs)
-    unfolding any
+    pub any_reads : (xs : List A) → Reads ((x : A) × x ∈ xs × P x) (list_any f xs)
     any_reads [] = fail (λ t. ∈-nil t.1)
     any_reads (x ∷ xs) = reads_as (into, out) (or_reads (r x) (any_reads xs))
       where
@@ -39,36 +39,31 @@ module _ {A : Type 0} where
         out : (y : A) × y ∈ x ∷ xs × P y → P x ⊎ ((y : A) × y ∈ xs × P y)
         out t = in_cons (λ z. P z → P x ⊎ ((y : A) × y ∈ xs × P y)) inl (λ z m p. inr (z, m, p)) t.1 t.2
 
-    pub all_reads : (xs : List A) → Reads ((x : A) → x ∈ xs → P x) (all f xs)
-    unfolding all
+    pub all_reads : (xs : List A) → Reads ((x : A) → x ∈ xs → P x) (list_all f xs)
     all_reads [] = pass (λ x m. absurd (∈-nil m))
     all_reads (x ∷ xs) = reads_as (λ t y m. in_cons P t.0 t.1 m, λ h. (h x (∈-head refl), λ y m. h y (∈-tail m))) (and_reads (r x) (all_reads xs))
 
     -- ---- the rows that pass
 
-    pub keep_in : (xs : List A) {x : A} → x ∈ keep f xs → x ∈ xs × P x
-    unfolding keep
+    pub keep_in : (xs : List A) {x : A} → x ∈ filter f xs → x ∈ xs × P x
     keep_in [] m = absurd (∈-nil m)
     keep_in (y ∷ ys) {x} m =
-        let later : (z : A) → z ∈ keep f ys → z ∈ y ∷ ys × P z = λ z k. let t = keep_in ys k in (∈-tail t.0, t.1) in
+        let later : (z : A) → z ∈ filter f ys → z ∈ y ∷ ys × P z = λ z k. let t = keep_in ys k in (∈-tail t.0, t.1) in
         choose (r y) (λ l. x ∈ l → x ∈ y ∷ ys × P x) (λ p. in_cons (λ z. z ∈ y ∷ ys × P z) (∈-head refl, p) later) (λ n. later x) m
 
-    pub in_keep : {x : A} {xs : List A} → x ∈ xs → P x → x ∈ keep f xs
-    unfolding keep
+    pub in_keep : {x : A} {xs : List A} → x ∈ xs → P x → x ∈ filter f xs
     in_keep {x} (∈-head {x = y} {xs = ys} e) p = choose (r y) (λ l. x ∈ l) (λ s. ∈-head e) (λ n. absurd (n (subst P e p)))
     in_keep {x} (∈-tail {x = y} {xs = ys} m) p = let k = in_keep m p in choose (r y) (λ l. x ∈ l) (λ s. ∈-tail k) (λ n. k)
 
-    pub keep_all : (xs : List A) → ((x : A) → x ∈ xs → P x) → keep f xs ≡ xs
-    unfolding keep
+    pub keep_all : (xs : List A) → ((x : A) → x ∈ xs → P x) → filter f xs ≡ xs
     keep_all [] h = refl
     keep_all (x ∷ xs) h = let ih = keep_all xs (λ y m. h y (∈-tail m)) in choose (r x) (λ l. l ≡ x ∷ xs) (λ p. ap {B = List A} (λ l. x ∷ l) ih) (λ n. absurd (n (h x (∈-head refl))))
 
-    pub keep_none : (xs : List A) → ((x : A) → x ∈ xs → P x → ⊥) → keep f xs ≡ []
-    unfolding keep
+    pub keep_none : (xs : List A) → ((x : A) → x ∈ xs → P x → ⊥) → filter f xs ≡ []
     keep_none [] h = refl
     keep_none (x ∷ xs) h = let ih = keep_none xs (λ y m. h y (∈-tail m)) in choose (r x) (λ l. l ≡ []) (λ p. absurd (h x (∈-head refl) p)) (λ n. ih)
 
-  pub keep_old : (f : A → Bool) (xs : List A) {x : A} → x ∈ keep f xs → x ∈ xs
+  pub keep_old : (f : A → Bool) (xs : List A) {x : A} → x ∈ filter f xs → x ∈ xs
   keep_old f xs m = (keep_in (λ z. test (f z)) xs m).0
 
   pub pairs_reads : {R : A → A → Type 0} {f : A → A → Bool} → ((x y : A) → Reads (R x y) (f x y)) → (xs : List A) → Reads (Rows R xs) (pairs f xs)
@@ -136,13 +131,11 @@ module _ {A : Type 0} where
   insert_all_old f [] m = m
   insert_all_old f (x ∷ xs) m = insert_old f x (insert_all_old f xs m)
 
-  pub gather_in : {B : Type 0} (f : A → List B) (xs : List A) {b : B} → b ∈ gather f xs → (x : A) × x ∈ xs × b ∈ f x
-  unfolding gather
+  pub gather_in : {B : Type 0} (f : A → List B) (xs : List A) {b : B} → b ∈ flat_map f xs → (x : A) × x ∈ xs × b ∈ f x
   gather_in f [] m = absurd (∈-nil m)
   gather_in f (x ∷ xs) {b} m =
-      ⊎_elim (λ (l : b ∈ f x). (x, ∈-head refl, l)) (λ (t : b ∈ gather f xs). let k = gather_in f xs t in (k.0, ∈-tail k.1, k.2)) (∈-append (f x) m)
+      ⊎_elim (λ (l : b ∈ f x). (x, ∈-head refl, l)) (λ (t : b ∈ flat_map f xs). let k = gather_in f xs t in (k.0, ∈-tail k.1, k.2)) (∈-append (f x) m)
 
-  pub in_gather : {B : Type 0} (f : A → List B) {x : A} {xs : List A} {b : B} → x ∈ xs → b ∈ f x → b ∈ gather f xs
-  unfolding gather
-  in_gather f {b = b} (∈-head {x = y} {xs = ys} e) m = ∈-left (gather f ys) (subst (λ z. b ∈ f z) e m)
+  pub in_gather : {B : Type 0} (f : A → List B) {x : A} {xs : List A} {b : B} → x ∈ xs → b ∈ f x → b ∈ flat_map f xs
+  in_gather f {b = b} (∈-head {x = y} {xs = ys} e) m = ∈-left (flat_map f ys) (subst (λ z. b ∈ f z) e m)
   in_gather f (∈-tail {x = y} m') m = ∈-right (f y) (in_gather f m' m)

@@ -6,7 +6,8 @@ use mathlib.Core.List.Memᴰ.{tail as ∈-tail}
 use mathlib.Core.List.{List, [], ◌∷◌, ◌++◌, map}
 use mathlib.Core.Path.{◌≡◌, refl, ap, ◌∙◌}
 use lib.ListN.{take, drop, take-append-drop}
-use Rattle.lists.specs.Lists.{◌∈◌, any, all, links, keep, insert, gather}
+use Rattle.lists.specs.Lists.{◌∈◌, links, insert}
+use Rattle.std.specs.List.{list_any, list_all, filter, flat_map}
 use Rattle.lists.specs.Span.{span}
 use Rattle.lists.specs.First.{first_row}
 use Rattle.lists.proofs.Somes.{any_as, any_map}
@@ -14,11 +15,10 @@ use Rattle.lists.proofs.Somes.{any_as, any_map}
 module _ {A B : Type 0} (t : A → B) where
   -- f tells of each translated row what g tells of the row
   module _ (f : B → Bool) (g : A → Bool) (e : (x : A) → f (t x) ≡ g x) where
-    pub any_mapped : (xs : List A) → any f (map t xs) ≡ any g xs
+    pub any_mapped : (xs : List A) → list_any f (map t xs) ≡ list_any g xs
     any_mapped xs = any_map f t xs ∙ any_as e xs
 
-    pub all_mapped : (xs : List A) → all f (map t xs) ≡ all g xs
-    unfolding all
+    pub all_mapped : (xs : List A) → list_all f (map t xs) ≡ list_all g xs
     all_mapped [] = refl
     all_mapped (x ∷ xs) = λ i. e x i && all_mapped xs i
 
@@ -27,12 +27,11 @@ module _ {A B : Type 0} (t : A → B) where
     first_mapped [] = refl
     first_mapped (x ∷ xs) = λ i. cond (not (e x i)) (suc (first_mapped xs i)) zero
 
-    pub keep_mapped : (xs : List A) → keep f (map t xs) ≡ map t (keep g xs)
-    unfolding keep
+    pub keep_mapped : (xs : List A) → filter f (map t xs) ≡ map t (filter g xs)
     keep_mapped [] = refl
     keep_mapped (x ∷ xs) = (λ i. cond (e x i) (t x ∷ keep_mapped xs i) (keep_mapped xs i)) ∙ case (g x)
       where
-        case : (b : Bool) → cond b (t x ∷ map t (keep g xs)) (map t (keep g xs)) ≡ map t (cond b (x ∷ keep g xs) (keep g xs))
+        case : (b : Bool) → cond b (t x ∷ map t (filter g xs)) (map t (filter g xs)) ≡ map t (cond b (x ∷ filter g xs) (filter g xs))
         case true = refl
         case false = refl
 
@@ -52,8 +51,7 @@ module _ {A B : Type 0} (t : A → B) where
         case true = refl
         case false = refl
 
-  pub gather_mapped : {C : Type 0} (f : B → List C) (g : A → List C) → ((x : A) → f (t x) ≡ g x) → (xs : List A) → gather f (map t xs) ≡ gather g xs
-  unfolding gather
+  pub gather_mapped : {C : Type 0} (f : B → List C) (g : A → List C) → ((x : A) → f (t x) ≡ g x) → (xs : List A) → flat_map f (map t xs) ≡ flat_map g xs
   gather_mapped f g e [] = refl
   gather_mapped f g e (x ∷ xs) = λ i. e x i ++ gather_mapped f g e xs i
 

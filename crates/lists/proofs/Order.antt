@@ -7,7 +7,8 @@ use mathlib.Core.List.Memᴰ.{tail as ∈-tail}
 use mathlib.Core.List.{List, [], ◌∷◌, map}
 use mathlib.Core.Path.{◌≡◌, refl, sym, subst, ap₂, ◌∙◌}
 use mathlib.Core.Logic.{⊎_elim, ◌⊎◌, inl, inr}
-use Rattle.lists.specs.Lists.{◌∈◌, Rows, none, more, keep, insert}
+use Rattle.lists.specs.Lists.{◌∈◌, Rows, none, more, insert}
+use Rattle.std.specs.List.{filter}
 use Rattle.lists.proofs.Adjacent.{Adjacent, empty, single, link}
 use Rattle.lists.proofs.Tests.{Reads, test, choose}
 use Rattle.lists.proofs.Lists.{in_cons, keep_old, insert_in}
@@ -23,8 +24,7 @@ module _ {A : Type 0} where
     pub rows_one : {x : A} → Rows R (x ∷ [])
     rows_one = more (λ y m. absurd (∈-nil m)) none
 
-    pub rows_keep : (f : A → Bool) {xs : List A} → Rows R xs → Rows R (keep f xs)
-    unfolding keep
+    pub rows_keep : (f : A → Bool) {xs : List A} → Rows R xs → Rows R (filter f xs)
     rows_keep f none = none
     rows_keep f (more {x} {xs} h s) = let k = rows_keep f s in choose (test (f x)) (Rows R) (λ t. more (λ y m. h y (keep_old f xs m)) k) (λ n. k)
 

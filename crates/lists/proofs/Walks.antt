@@ -9,7 +9,8 @@ use mathlib.Core.List.{List, [], ◌∷◌}
 use mathlib.Core.Bool.{Bool, true, false}
 use lib.ListN.{length, get_or, take, drop, drop_of_length-le}
 use lib.Seq.{drop-cons, length-take-le, get_or-take, take_all}
-use Rattle.lists.specs.Lists.{any, all, pairs, links}
+use Rattle.lists.specs.Lists.{pairs, links}
+use Rattle.std.specs.List.{list_any, list_all}
 use Rattle.lists.specs.Span.{span}
 
 module _ {A : Type 0} where
@@ -53,40 +54,34 @@ module _ {A : Type 0} where
   -- ---- some row passes
 
   module _ (f : A → Bool) {l : List A} {n i : ℕ} {b : Bool} where
-    pub any_next : (d : A) → Rest (any f) l n i b → f (get_or l i d) ≡ false → i < n → n ≤ length l → Rest (any f) l n (i + 1) b
-    unfolding any
+    pub any_next : (d : A) → Rest (list_any f) l n i b → f (get_or l i d) ≡ false → i < n → n ≤ length l → Rest (list_any f) l n (i + 1) b
     any_next d s e h k = rest_next d s (λ xs. rw e) h k
 
-    pub any_stop : (d : A) → Rest (any f) l n i b → f (get_or l i d) ≡ true → i < n → n ≤ length l → true ≡ b
-    unfolding any
+    pub any_stop : (d : A) → Rest (list_any f) l n i b → f (get_or l i d) ≡ true → i < n → n ≤ length l → true ≡ b
     any_stop d s e h k = rest_stop d s (λ xs. rw e) h k
 
-    pub any_end : Rest (any f) l n i b → n ≤ i → n ≤ length l → false ≡ b
-    unfolding any
+    pub any_end : Rest (list_any f) l n i b → n ≤ i → n ≤ length l → false ≡ b
     any_end s h k = rest_end s h k
 
     -- ---- each row passes
 
-    pub all_next : (d : A) → Rest (all f) l n i b → f (get_or l i d) ≡ true → i < n → n ≤ length l → Rest (all f) l n (i + 1) b
-    unfolding all
+    pub all_next : (d : A) → Rest (list_all f) l n i b → f (get_or l i d) ≡ true → i < n → n ≤ length l → Rest (list_all f) l n (i + 1) b
     all_next d s e h k = rest_next d s (λ xs. rw e) h k
 
-    pub all_stop : (d : A) → Rest (all f) l n i b → f (get_or l i d) ≡ false → i < n → n ≤ length l → false ≡ b
-    unfolding all
+    pub all_stop : (d : A) → Rest (list_all f) l n i b → f (get_or l i d) ≡ false → i < n → n ≤ length l → false ≡ b
     all_stop d s e h k = rest_stop d s (λ xs. rw e) h k
 
-    pub all_end : Rest (all f) l n i b → n ≤ i → n ≤ length l → true ≡ b
-    unfolding all
+    pub all_end : Rest (list_all f) l n i b → n ≤ i → n ≤ length l → true ≡ b
     all_end s h k = rest_end s h k
 
   module _ (f : A → A → Bool) {l : List A} {n i : ℕ} {b : Bool} where
     -- ---- each row and each later one pass
 
-    pub pairs_next : (d : A) → Rest (pairs f) l n i b → all (f (get_or l i d)) (drop (i + 1) (take n l)) ≡ true → i < n → n ≤ length l → Rest (pairs f) l n (i + 1) b
+    pub pairs_next : (d : A) → Rest (pairs f) l n i b → list_all (f (get_or l i d)) (drop (i + 1) (take n l)) ≡ true → i < n → n ≤ length l → Rest (pairs f) l n (i + 1) b
     unfolding pairs
     pairs_next d s e h k = record { same = s.same ∙ ap (pairs f) (rows_from_lem l n i d h k) ∙ rw e }
 
-    pub pairs_stop : (d : A) → Rest (pairs f) l n i b → all (f (get_or l i d)) (drop (i + 1) (take n l)) ≡ false → i < n → n ≤ length l → false ≡ b
+    pub pairs_stop : (d : A) → Rest (pairs f) l n i b → list_all (f (get_or l i d)) (drop (i + 1) (take n l)) ≡ false → i < n → n ≤ length l → false ≡ b
     unfolding pairs
     pairs_stop d s e h k = sym (s.same ∙ ap (pairs f) (rows_from_lem l n i d h k) ∙ rw e)
 

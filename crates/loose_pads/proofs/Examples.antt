@@ -1,7 +1,8 @@
 -- The small drawings of docs/SCRIPT.md, and one that each of two other readings of the request would count otherwise.
 use mathlib.Core.List.{[], ◌∷◌}
 use mathlib.Core.Path.{◌≡◌, refl}
-use Rattle.lists.specs.Lists.{any, keep, insert, gather}
+use Rattle.lists.specs.Lists.{insert}
+use Rattle.std.specs.List.{list_any, filter, flat_map}
 use Rattle.lists.specs.Span.{span}
 use Rattle.edge.specs.Coordinates.{biased}
 use Rattle.sheet.specs.Points.{same, rises}
@@ -38,5 +39,5 @@ record LooseExamples : Type 0 where
   two_together_lem : loose_pads (1 ∷ []) (net_numbers two_together) ≡ 0 ∷ []
 
 loose_examples : LooseExamples
-unfolding any keep insert gather span biased same rises ends bump joints_of pads joints merged net_from first_net net_of rank meet number_from numbering numbers_of number_of_joint net_numbers pad_names occurs spare is_loose numbers_from loose_pads loose_of
+unfolding insert span biased same rises ends bump joints_of pads joints merged net_from first_net net_of rank meet number_from numbering numbers_of number_of_joint net_numbers pad_names occurs spare is_loose numbers_from loose_pads loose_of
 loose_examples = record { spare_b_lem = refl; both_spare_lem = refl; leads_nowhere_lem = refl; two_together_lem = refl }

@@ -4,7 +4,7 @@ use native.Mathlib.Omega.{arith}
 use mathlib.Core.List.{List, [], ◌∷◌}
 use mathlib.Core.Path.{◌≡◌, refl}
 use lib.ListN.{length, length-append}
-use Rattle.lists.specs.Lists.{gather}
+use Rattle.std.specs.List.{flat_map}
 use Rattle.symbol.specs.Symbols.{pads_at}
 use Rattle.sheet.specs.declared.Component.{Component}
 use Rattle.sheet.specs.Parts.{pads, pads_of}
@@ -21,9 +21,9 @@ kind_names (suc zero) = refl
 kind_names (suc (suc k)) = refl
 
 pub names_long : (cs : List Component) → length (pad_names (kinds_of cs)) ≡ length (pads_of cs)
-unfolding pad_names gather
+unfolding pad_names
 names_long [] = refl
-names_long (c ∷ cs) = omega (arith, length-append (names_of c.kind) (gather names_of (kinds_of cs)), length-append (pads c) (pads_of cs), kind_names c.kind, pads_by_kind c, names_long cs)
+names_long (c ∷ cs) = omega (arith, length-append (names_of c.kind) (flat_map names_of (kinds_of cs)), length-append (pads c) (pads_of cs), kind_names c.kind, pads_by_kind c, names_long cs)
 
 -- ---- A and B
 
@@ -36,7 +36,7 @@ name_number pad-b = 3
 name_number pad-n = 4
 
 pub a_then_b : (kinds : List ℕ) {i : ℕ} → At (pad_names kinds) i pad-a → At (pad_names kinds) (suc i) pad-b
-unfolding pad_names gather
+unfolding pad_names
 a_then_b [] a = absurd (omega (arith, at_low a))
 a_then_b (zero ∷ ks) (later a) = later (a_then_b ks a)
 a_then_b (suc zero ∷ ks) (later first) = later (later first)
@@ -53,7 +53,7 @@ further_on : {names : List PadName} {i : ℕ} (x : PadName) → AfterA names i �
 further_on x r = record { before = suc r.before; next = omega (arith, r.next); is_a = later r.is_a }
 
 pub b_after_a : (kinds : List ℕ) {i : ℕ} → At (pad_names kinds) i pad-b → AfterA (pad_names kinds) i
-unfolding pad_names gather
+unfolding pad_names
 b_after_a [] a = absurd (omega (arith, at_low a))
 b_after_a (zero ∷ ks) (later a) = further_on pad-v (b_after_a ks a)
 b_after_a (suc zero ∷ ks) (later (later first)) = record { before = 1; next = refl; is_a = later first }

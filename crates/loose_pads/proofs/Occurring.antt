@@ -6,7 +6,7 @@ use mathlib.Core.List.{List, [], ◌∷◌}
 use mathlib.Core.Path.{◌≡◌, sym, ap, ◌∙◌}
 use lib.Dec.{eqb}
 use lib.ListN.{length, take, get_or, set, replicate, length-replicate, get_or-replicate, length-set, length-take, length-append}
-use Rattle.lists.specs.Lists.{keep}
+use Rattle.std.specs.List.{filter}
 use Rattle.lists.proofs.Appends.{keep_append, length_keep}
 use Rattle.lists.proofs.Passes.{take_more}
 use Rattle.lists.proofs.Tables.{set_tells}
@@ -16,7 +16,7 @@ use Rattle.loose_pads.proofs.Single.{occurs_here, occurs_on, occurs_none}
 
 occurs_more : (n : ℕ) (ns : List ℕ) (i : ℕ) → i < length ns → occurs n (take (i + 1) ns) ≡ occurs n (take i ns) + occurs n (get_or ns i 0 ∷ [])
 unfolding occurs
-occurs_more n ns i h = ap (occurs n) (take_more ns i 0 h) ∙ ap length (keep_append (eqb n) (take i ns) (get_or ns i 0 ∷ [])) ∙ length-append (keep (eqb n) (take i ns)) (keep (eqb n) (get_or ns i 0 ∷ []))
+occurs_more n ns i h = ap (occurs n) (take_more ns i 0 h) ∙ ap length (keep_append (eqb n) (take i ns) (get_or ns i 0 ∷ [])) ∙ length-append (filter (eqb n) (take i ns)) (filter (eqb n) (get_or ns i 0 ∷ []))
 
 pub table_none : Occurrences [] (replicate 385 0)
 table_none = record { size = length-replicate {A = ℕ} 385 0; each = λ n h. get_or-replicate {A = ℕ} 385 n 0 0 h ∙ sym (occurs_none n) }

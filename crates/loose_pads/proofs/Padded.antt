@@ -5,7 +5,7 @@ use mathlib.Core.List.{List, ◌++◌, append-nil}
 use mathlib.Core.Path.{◌≡◌, sym, ap, subst, ◌∙◌}
 use lib.Dec.{eqb}
 use lib.ListN.{length, get_or, replicate}
-use Rattle.lists.specs.Lists.{keep}
+use Rattle.std.specs.List.{filter}
 use Rattle.lists.specs.Tables.{pad}
 use Rattle.lists.proofs.Appends.{keep_append}
 use Rattle.lists.proofs.Lists.{keep_none}
@@ -24,7 +24,7 @@ occurs_zeros : (n : ℕ) → (n ≡ 0 → ⊥) → (ns : List ℕ) (k : ℕ) →
 unfolding occurs
 occurs_zeros n f ns k =
     let none = keep_none (eqb_reads n) (replicate k 0) (λ m i e. f (e ∙ zeros_only 0 k i)) in
-    ap length (keep_append (eqb n) ns (replicate k 0) ∙ ap (λ (l : List ℕ). keep (eqb n) ns ++ l) none ∙ append-nil (keep (eqb n) ns))
+    ap length (keep_append (eqb n) ns (replicate k 0) ∙ ap (λ (l : List ℕ). filter (eqb n) ns ++ l) none ∙ append-nil (filter (eqb n) ns))
 
 spare_zeros : (ns : List ℕ) (n i : ℕ) → spare (pad n 0 ns) i ≡ spare ns i
 unfolding spare pad
@@ -36,7 +36,7 @@ spare_zeros ns n i =
 
 pub loose_padded : (kinds ns : List ℕ) (n : ℕ) → loose_pads kinds (pad n 0 ns) ≡ loose_pads kinds ns
 unfolding loose_pads is_loose
-loose_padded kinds ns n = λ t. keep (λ i. loose_by (get_or (pad_names kinds) i pad-v) (spare_zeros ns n (i - 1) t) (spare_zeros ns n i t) (spare_zeros ns n (i + 1) t)) (numbers_from 0 (length (pad_names kinds)))
+loose_padded kinds ns n = λ t. filter (λ i. loose_by (get_or (pad_names kinds) i pad-v) (spare_zeros ns n (i - 1) t) (spare_zeros ns n i t) (spare_zeros ns n (i + 1) t)) (numbers_from 0 (length (pad_names kinds)))
 
 pub numbers_low : {d : Drawing} → Lawful d → {numbers : List ℕ} → numbers ≡ pad 384 0 (net_numbers (lists_of d)) → Low numbers
 numbers_low {d} l e = subst Low (sym e) (record { low = λ i. omega (arith, get_d_pad 384 0 (net_numbers (lists_of d)) i, net_numbers_few l i) })

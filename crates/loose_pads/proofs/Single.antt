@@ -6,21 +6,21 @@ use mathlib.Core.Logic.{◌⊎◌, inl, inr}
 use mathlib.Core.Path.{◌≡◌, refl, ap, subst}
 use lib.Dec.{eqb}
 use lib.ListN.{length}
-use Rattle.lists.specs.Lists.{keep}
+use Rattle.std.specs.List.{filter}
 use Rattle.lists.proofs.Tests.{choose, eqb_reads, decide}
 use Rattle.nets.specs.Nets.{At, first, later}
 use Rattle.loose_pads.specs.Counting.{occurs}
 
 pub occurs_here : (n m : ℕ) (ns : List ℕ) → n ≡ m → occurs n (m ∷ ns) ≡ suc (occurs n ns)
-unfolding occurs keep
-occurs_here n m ns e = choose (eqb_reads n m) (λ (l : List ℕ). length l ≡ suc (length (keep (eqb n) ns))) (λ _. refl) (λ f. absurd (f e))
+unfolding occurs
+occurs_here n m ns e = choose (eqb_reads n m) (λ (l : List ℕ). length l ≡ suc (length (filter (eqb n) ns))) (λ _. refl) (λ f. absurd (f e))
 
 pub occurs_on : (n m : ℕ) (ns : List ℕ) → (n ≡ m → ⊥) → occurs n (m ∷ ns) ≡ occurs n ns
-unfolding occurs keep
-occurs_on n m ns f = choose (eqb_reads n m) (λ (l : List ℕ). length l ≡ length (keep (eqb n) ns)) (λ e. absurd (f e)) (λ _. refl)
+unfolding occurs
+occurs_on n m ns f = choose (eqb_reads n m) (λ (l : List ℕ). length l ≡ length (filter (eqb n) ns)) (λ e. absurd (f e)) (λ _. refl)
 
 pub occurs_none : (n : ℕ) → occurs n [] ≡ 0
-unfolding occurs keep
+unfolding occurs
 occurs_none n = refl
 
 -- a number that occurs has a place, and one with a place occurs

@@ -6,7 +6,7 @@ use mathlib.Core.List.{List, [], ◌∷◌, ◌++◌}
 use mathlib.Core.Path.{◌≡◌, refl, sym, ap, subst, ◌∙◌}
 use lib.ListN.{length, get_or, drop}
 use lib.Seq.{get_or-drop, drop-drop}
-use Rattle.lists.specs.Lists.{keep, gather}
+use Rattle.std.specs.List.{filter, flat_map}
 use Rattle.lists.proofs.Walks.{rows_from_lem}
 use Rattle.symbol.specs.Symbols.{pads_at}
 use Rattle.sheet.specs.declared.Component.{Component}
@@ -37,13 +37,13 @@ coil_part (suc (suc k)) n a b f g = refl
 module _ (names : List PadName) (ns : List ℕ) where
   -- how many of the m pads from p on are loose
   unfoldable pub loose_from : ℕ → ℕ → ℕ
-  loose_from p m = length (keep (is_loose names ns) (numbers_from p m))
+  loose_from p m = length (filter (is_loose names ns) (numbers_from p m))
 
   from_next : (p m : ℕ) → loose_from p (suc m) ≡ counts (is_loose names ns p) true + loose_from (p + 1) m
-  unfolding loose_from numbers_from keep
+  unfolding loose_from numbers_from
   from_next p m = by (is_loose names ns p)
     where
-      by : (b : Bool) → length (cond b (p ∷ keep (is_loose names ns) (numbers_from (p + 1) m)) (keep (is_loose names ns) (numbers_from (p + 1) m))) ≡ counts b true + length (keep (is_loose names ns) (numbers_from (p + 1) m))
+      by : (b : Bool) → length (cond b (p ∷ filter (is_loose names ns) (numbers_from (p + 1) m)) (filter (is_loose names ns) (numbers_from (p + 1) m))) ≡ counts b true + length (filter (is_loose names ns) (numbers_from (p + 1) m))
       by true = omega arith
       by false = omega arith
 
@@ -85,7 +85,7 @@ walk_start kinds ns = record { named = refl; whole = omega arith }
 
 module _ {kinds ns : List ℕ} {p loose : ℕ} where
   pub walk_next : {left : List ℕ} {k m r : ℕ} → Walked kinds ns (k ∷ left) p loose → m ≡ length (pads_at k) → r ≡ loose_part k (spare ns p) (spare ns (p + 1)) (spare ns (p + 2)) → Walked kinds ns left (p + m) (loose + r)
-  unfolding pad_names gather
+  unfolding pad_names
   walk_next {left} {k} {m} {r} w e f =
       let names : List PadName = pad_names kinds in
       let long : length (names_of k) ≡ m = kind_names k ∙ sym e in
@@ -108,5 +108,5 @@ module _ {kinds ns : List ℕ} {p loose : ℕ} where
       walk_next (subst (λ (cs : List Component). Walked kinds ns (kinds_of cs) p loose) (rows_from_lem t.rows t.count i d h k) w) e (f ∙ (λ j. loose_part (get_or t.rows i d).kind (en j) (ea j) (eb j)))
 
   pub walk_end : Walked kinds ns [] p loose → loose ≡ length (loose_pads kinds ns)
-  unfolding pad_names gather loose_from numbers_from keep
+  unfolding pad_names loose_from numbers_from
   walk_end w = omega (arith, w.whole)

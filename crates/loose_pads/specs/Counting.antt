@@ -1,7 +1,8 @@
 -- How many pads are loose, told by the net numbers. A pad is spare if it is alone on its net and not fed: its number occurs once and isn't
 -- 0.
 use Rattle.std.specs.Prelude.{ℕ, zero, suc, ◌+◌, ◌-◌, ◌<◌, Bool, false, not, ◌&&◌, List, [], ◌∷◌, ◌↔◌, ◌≡◌, eqb, length, get_or}
-use Rattle.lists.specs.Lists.{◌∈◌, Rows, keep}
+use Rattle.lists.specs.Lists.{◌∈◌, Rows}
+use Rattle.std.specs.List.{filter}
 use Rattle.sheet.specs.Drawings.{Sheet}
 use Rattle.net_numbers.specs.Netted.{net_numbers}
 use Rattle.loose_pads.specs.Loose.{PadName, pad-v, pad-c, pad-a, pad-b, pad-n, pad_names, kinds_of}
@@ -15,7 +16,7 @@ pub record HowMany (P : ℕ → Type 0) (count : ℕ) : Type 0 where
 
 -- how often a number occurs among others
 unfoldable pub occurs : ℕ → List ℕ → ℕ
-occurs n ns = length (keep (eqb n) ns)
+occurs n ns = length (filter (eqb n) ns)
 
 -- pad i is spare: its number occurs once and isn't 0
 unfoldable pub spare : List ℕ → ℕ → Bool
@@ -41,7 +42,7 @@ numbers_from i (suc n) = i ∷ numbers_from (i + 1) n
 
 -- the loose pads of components of those kinds whose pads have the net numbers ns
 unfoldable pub loose_pads : List ℕ → List ℕ → List ℕ
-loose_pads kinds ns = keep (is_loose (pad_names kinds) ns) (numbers_from 0 (length (pad_names kinds)))
+loose_pads kinds ns = filter (is_loose (pad_names kinds) ns) (numbers_from 0 (length (pad_names kinds)))
 
 -- how many pads of a sheet are loose
 unfoldable pub loose_of : Sheet → ℕ

@@ -1,7 +1,7 @@
 -- Loose pads (document 02, P2): "Take loose to mean: a pad of a contact or coil that isn't fed and is alone on its net, unless it is A or B
 -- of a contact whose other one of the two is on a net with a further pad or fed. The definition in document 01 is replaced."
 use Rattle.std.specs.Prelude.{ℕ, zero, suc, List, [], ◌∷◌, map, ◌≡◌}
-use Rattle.lists.specs.Lists.{gather}
+use Rattle.std.specs.List.{flat_map}
 use Rattle.symbol.specs.declared.Point.{Point}
 use Rattle.sheet.specs.declared.Component.{Component}
 use Rattle.sheet.specs.Parts.{pads_of}
@@ -27,7 +27,7 @@ names_of (suc (suc k)) = pad-n ∷ []
 
 -- the pads of all components, by their kinds
 unfoldable pub pad_names : List ℕ → List PadName
-pad_names kinds = gather names_of kinds
+pad_names kinds = flat_map names_of kinds
 
 -- the kinds of the components, in row order
 abbrev pub kinds_of : List Component → List ℕ

@@ -12,7 +12,8 @@ use mathlib.Core.Bool.{Bool, true, false, ◌&&◌, ◌||◌, not, beq, or-false
 use lib.Dec.{eqb}
 use lib.ListN.{length, take, set}
 use Rattle.symbol.specs.declared.Point.{Point}
-use Rattle.lists.specs.Lists.{◌∈◌, any, gather}
+use Rattle.lists.specs.Lists.{◌∈◌}
+use Rattle.std.specs.List.{list_any, flat_map}
 use Rattle.lists.proofs.Tests.{reads_as, same_test, eqb_reads, and_reads}
 use Rattle.lists.proofs.Appends.{any_append}
 use Rattle.lists.proofs.Lists.{in_cons}
@@ -72,15 +73,13 @@ code_is a m s t = same_test (eqb_reads (code_of a) (code_of m)) (reads_as (to, f
         let y : a.point.y ≡ m.point.y = omega (arith, s.x, s.y, t.x, t.y) in
         (k, λ i. record { x = x i; y = y i })
 
-any_code : (a : Mark) (ms : List Mark) → Codable a → ((m : Mark) → m ∈ ms → Codable m) → any (eqb (code_of a)) (map code_of ms) ≡ any (is a) ms
-unfolding any
+any_code : (a : Mark) (ms : List Mark) → Codable a → ((m : Mark) → m ∈ ms → Codable m) → list_any (eqb (code_of a)) (map code_of ms) ≡ list_any (is a) ms
 any_code a [] s h = refl
 any_code a (m ∷ ms) s h = λ i. code_is a m s (h m (∈-head refl)) i || any_code a ms s (λ n k. h n (∈-tail k)) i
 
 -- ---- what holds wires of a direction apart at a point
 
-ends_is : (d : Bool) (p : Point) (w : Wire) → any (is (mark (kind_of d) p)) (end_marks w) ≡ (beq w.vertical d && (same p (tip low w) || same p (tip high w)))
-unfolding any
+ends_is : (d : Bool) (p : Point) (w : Wire) → list_any (is (mark (kind_of d) p)) (end_marks w) ≡ (beq w.vertical d && (same p (tip low w) || same p (tip high w)))
 ends_is d p w = step d w.vertical (same p (tip low w)) (same p (tip high w))
   where
     step : (d e x y : Bool) → ((eqb (kind_of d) (kind_of e) && x) || ((eqb (kind_of d) (kind_of e) && y) || false)) ≡ (beq e d && (x || y))
@@ -93,27 +92,26 @@ no_pad : (d : Bool) (p q : Point) → is (mark (kind_of d) p) (mark 2 q) ≡ fal
 no_pad true p q = refl
 no_pad false p q = refl
 
-no_end : (p : Point) (w : Wire) → any (is (mark 2 p)) (end_marks w) ≡ false
-unfolding any
+no_end : (p : Point) (w : Wire) → list_any (is (mark 2 p)) (end_marks w) ≡ false
 no_end p w = step w.vertical
   where
     step : (e : Bool) → ((eqb 2 (kind_of e) && same p (tip low w)) || ((eqb 2 (kind_of e) && same p (tip high w)) || false)) ≡ false
     step true = refl
     step false = refl
 
-held_marks : (ws : List Wire) (ps : List Point) (d : Bool) (p : Point) → held_apart ws ps d p ≡ (any (is (mark (kind_of (not d)) p)) (marks_with_kind ws ps) || any (is (mark 2 p)) (marks_with_kind ws ps))
+held_marks : (ws : List Wire) (ps : List Point) (d : Bool) (p : Point) → held_apart ws ps d p ≡ (list_any (is (mark (kind_of (not d)) p)) (marks_with_kind ws ps) || list_any (is (mark 2 p)) (marks_with_kind ws ps))
 unfolding held_apart marks_with_kind
 held_marks ws ps d p = λ i. sym crossed i || sym padded i
   where
-    crossed : any (is (mark (kind_of (not d)) p)) (gather end_marks ws ++ map (mark 2) ps) ≡ any (λ w. beq w.vertical (not d) && (same p (tip low w) || same p (tip high w))) ws
+    crossed : list_any (is (mark (kind_of (not d)) p)) (flat_map end_marks ws ++ map (mark 2) ps) ≡ list_any (λ w. beq w.vertical (not d) && (same p (tip low w) || same p (tip high w))) ws
     crossed =
-        any_append (is (mark (kind_of (not d)) p)) (gather end_marks ws) (map (mark 2) ps)
+        any_append (is (mark (kind_of (not d)) p)) (flat_map end_marks ws) (map (mark 2) ps)
         ∙ (λ i. (any_gather (is (mark (kind_of (not d)) p)) end_marks ws ∙ any_as (ends_is (not d) p) ws) i || (any_map (is (mark (kind_of (not d)) p)) (mark 2) ps ∙ any_never (no_pad (not d) p) ps) i)
         ∙ or-false _
 
-    padded : any (is (mark 2 p)) (gather end_marks ws ++ map (mark 2) ps) ≡ any (same p) ps
+    padded : list_any (is (mark 2 p)) (flat_map end_marks ws ++ map (mark 2) ps) ≡ list_any (same p) ps
     padded =
-        any_append (is (mark 2 p)) (gather end_marks ws) (map (mark 2) ps)
+        any_append (is (mark 2 p)) (flat_map end_marks ws) (map (mark 2) ps)
         ∙ (λ i. (any_gather (is (mark 2 p)) end_marks ws ∙ any_never (no_end p) ws) i || any_map (is (mark 2 p)) (mark 2) ps i)
 
 -- ---- numbers behind those of another table
@@ -137,8 +135,8 @@ behind_as {t} {r} e b = subst (λ (l : List Mark). Behind t l r) e b
 
 pub looked_up : (ws : List Wire) (ps : List Point) {cs : List ℕ} {a b : ℕ} {x y : Bool} (w : Wire) → Coded (marks_with_kind ws ps) cs
     → (a ≡ code_of (mark (kind_of (not w.vertical)) (tip high w))) × Codable (mark (kind_of (not w.vertical)) (tip high w)) → (b ≡ code_of (mark 2 (tip high w))) × Codable (mark 2 (tip high w))
-    → x ≡ any (eqb a) cs → y ≡ any (eqb b) cs → (x || y) ≡ held_apart ws ps w.vertical (tip high w)
+    → x ≡ list_any (eqb a) cs → y ≡ list_any (eqb b) cs → (x || y) ≡ held_apart ws ps w.vertical (tip high w)
 looked_up ws ps {cs} {a} {b} {x} {y} w c s t e f =
-    (λ i. (e ∙ (λ j. any (eqb (s.0 j)) (c.are j)) ∙ any_code (mark (kind_of (not w.vertical)) (tip high w)) (marks_with_kind ws ps) s.1 c.small) i
-    || (f ∙ (λ j. any (eqb (t.0 j)) (c.are j)) ∙ any_code (mark 2 (tip high w)) (marks_with_kind ws ps) t.1 c.small) i)
+    (λ i. (e ∙ (λ j. list_any (eqb (s.0 j)) (c.are j)) ∙ any_code (mark (kind_of (not w.vertical)) (tip high w)) (marks_with_kind ws ps) s.1 c.small) i
+    || (f ∙ (λ j. list_any (eqb (t.0 j)) (c.are j)) ∙ any_code (mark 2 (tip high w)) (marks_with_kind ws ps) t.1 c.small) i)
     ∙ sym (held_marks ws ps w.vertical (tip high w))

@@ -2,7 +2,8 @@
 -- number is among others.
 use Rattle.std.specs.Prelude.{ℕ, ◌+◌, ◌*◌, ◌≤◌, ◌<◌, ◌≡◌, List, [], ◌∷◌, ◌++◌, map, Bool, true, false, length, take, get_or}
 use Rattle.symbol.specs.declared.Point.{Point}
-use Rattle.lists.specs.Lists.{◌∈◌, gather}
+use Rattle.lists.specs.Lists.{◌∈◌}
+use Rattle.std.specs.List.{flat_map}
 use Rattle.sheet.specs.declared.Wire.{Wire}
 use Rattle.sheet.specs.Geometry.{low, high, tip}
 use Rattle.sheet.specs.Merge.{held_apart}
@@ -28,7 +29,7 @@ end_marks w = mark (kind_of w.vertical) (tip low w) ∷ mark (kind_of w.vertical
 
 -- all wire ends and pads
 unfoldable pub marks_with_kind : List Wire → List Point → List Mark
-marks_with_kind ws ps = gather end_marks ws ++ map (mark 2) ps
+marks_with_kind ws ps = flat_map end_marks ws ++ map (mark 2) ps
 
 -- a mark as one number, for points of which both numbers are below 65,536
 unfoldable pub code_of : Mark → ℕ

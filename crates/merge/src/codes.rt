@@ -1,6 +1,6 @@
 // Wire ends and pads as numbers.
 ghost use Rattle.std.specs.Prelude.{◌≡◌, List, ◌++◌, map, ◌≤◌};
-ghost use Rattle.lists.specs.Lists.{gather};
+ghost use Rattle.std.specs.List.{flat_map};
 ghost use Rattle.sheet.specs.Drawings.{wire_rows};
 ghost use Rattle.wires.specs.Tables.{point_rows};
 ghost use Rattle.merge.specs.Codes.{Mark, kind_of, mark, end_marks, code_of, Codable, Coded, number_rows};
@@ -29,7 +29,7 @@ pub fn code(kind: u64, p: Point) -> u64
 // The numbers of all wire ends.
 pub fn end_codes(ws: Wires) -> Numbers
     requires { ws.count ≤ 512 }
-    ensures { Coded (gather end_marks (wire_rows ws)) (number_rows result) × (result.count ≤ 1024) }
+    ensures { Coded (flat_map end_marks (wire_rows ws)) (number_rows result) × (result.count ≤ 1024) }
 {
     let n = ws.count;
     let rows = [0u64; 1408];

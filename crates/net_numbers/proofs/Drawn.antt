@@ -2,7 +2,8 @@
 use mathlib.Core.List.Memᴰ.{append_left as ∈-left}
 use mathlib.Core.List.{List, map}
 use mathlib.Core.Path.{◌≡◌, ap, subst, ◌∙◌}
-use Rattle.lists.specs.Lists.{◌∈◌, keep}
+use Rattle.lists.specs.Lists.{◌∈◌}
+use Rattle.std.specs.List.{filter}
 use Rattle.lists.proofs.Lists.{keep_old}
 use Rattle.lists.proofs.Tables.{holds_list, holds_count}
 use Rattle.symbol.specs.declared.Point.{Point}
@@ -42,11 +43,11 @@ module _ {d : Drawing} (l : Lawful d) where
   pads_jointed t = jointed (λ p m. pad_marked sheet p (subst (λ ps. p ∈ ps) t.points_are m))
 
   -- the power symbols alone
-  module _ {t : Components} (h : TabledParts (keep is_power (component_rows d.components)) t) where
+  module _ {t : Components} (h : TabledParts (filter is_power (component_rows d.components)) t) where
     pub powers_fit : PartsFit t
     powers_fit = record { room = holds_count h; each = λ c m. l.rule1.components_fit c (keep_old is_power (component_rows d.components) (subst (λ cs. c ∈ cs) (holds_list h) m)) }
 
-    powers_are : {ps : Points} → TabledPoints (pads_of (component_rows t)) ps → point_rows ps ≡ pads_of (keep is_power (component_rows d.components))
+    powers_are : {ps : Points} → TabledPoints (pads_of (component_rows t)) ps → point_rows ps ≡ pads_of (filter is_power (component_rows d.components))
     powers_are r = r.points_are ∙ ap pads_of (holds_list h)
 
     pub powers_jointed : {ps : Points} → TabledPoints (pads_of (component_rows t)) ps → Jointed (point_rows ps) d.joints
@@ -59,7 +60,7 @@ module _ {d : Drawing} (l : Lawful d) where
     unfolding net_numbers
     numbers_drawn {fed} {all} {wires} {powers} {pads} f a ws ps qs =
         let js : List Joint = joint_rows d.joints in
-        let us : pad_rows powers ≡ map (number_of_joint js) (pads_of (keep is_power sheet.parts)) = ps.pads_are ∙ ap (map (number_of_joint js)) (powers_are f) in
+        let us : pad_rows powers ≡ map (number_of_joint js) (pads_of (filter is_power sheet.parts)) = ps.pads_are ∙ ap (map (number_of_joint js)) (powers_are f) in
         let vs : pad_rows pads ≡ map (number_of_joint js) (pads_of sheet.parts) = qs.pads_are ∙ ap (map (number_of_joint js)) a.points_are in
         (λ i. numbers_of (record { links = ws.links_are i; powers = us i }) (vs i))
         ∙ ap (λ (is : List Joint). numbers_of (by_number (number_of_joint is) (net_on sheet)) (map (number_of_joint is) (pads_of sheet.parts))) (lawful_joints l)

@@ -9,7 +9,8 @@ use mathlib.Core.List.Memᴰ.{tail as ∈-tail}
 use mathlib.Core.List.{List, map}
 use mathlib.Core.Path.{◌≡◌, refl, sym, ap, subst, ◌∙◌}
 use lib.ListN.{length, get_or, length-map}
-use Rattle.lists.specs.Lists.{◌∈◌, keep}
+use Rattle.lists.specs.Lists.{◌∈◌}
+use Rattle.std.specs.List.{filter}
 use Rattle.lists.proofs.Appends.{length_gather}
 use Rattle.lists.proofs.Lists.{gather_in, in_gather, keep_old}
 use Rattle.symbol.specs.declared.Point.{Point}
@@ -55,8 +56,8 @@ module _ (s : Sheet) where
   pub pad_marked : (p : Point) → p ∈ pads_of s.parts → p ∈ marks_of s
   pad_marked p m = ∈-right (ends s.wires) m
 
-  pub power_pad : (p : Point) → p ∈ pads_of (keep is_power s.parts) → p ∈ pads_of s.parts
-  power_pad p m = let r = gather_in pads (keep is_power s.parts) m in in_gather pads (keep_old is_power s.parts r.1) r.2
+  pub power_pad : (p : Point) → p ∈ pads_of (filter is_power s.parts) → p ∈ pads_of s.parts
+  power_pad p m = let r = gather_in pads (filter is_power s.parts) m in in_gather pads (keep_old is_power s.parts r.1) r.2
 
   tips_marked : (w : Wire) → w ∈ s.wires → tip low w ∈ marks_of s × tip high w ∈ marks_of s
   tips_marked w m = (∈-left _ (low_end m), ∈-left _ (high_end m))

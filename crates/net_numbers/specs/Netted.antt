@@ -1,6 +1,6 @@
 -- The nets of a drawing's pads, and their numbers (document 01, "Nets and the list").
 use Rattle.std.specs.Prelude.{ℕ, suc, Bool, not, List, map, eqb}
-use Rattle.lists.specs.Lists.{keep}
+use Rattle.std.specs.List.{filter}
 use Rattle.lists.specs.Span.{span}
 use Rattle.symbol.specs.declared.Point.{Point}
 use Rattle.sheet.specs.declared.Wire.{Wire}
@@ -24,7 +24,7 @@ ends_of w = (tip low w, tip high w)
 
 -- what joins the points of a sheet: the wires and the power pads
 abbrev pub net_on : Sheet → Net Point
-net_on s = record { links = map ends_of s.wires; powers = pads_of (keep is_power s.parts) }
+net_on s = record { links = map ends_of s.wires; powers = pads_of (filter is_power s.parts) }
 
 -- the number of the joint at a point: its row, counted from 1
 unfoldable pub number_of_joint : List Joint → Point → ℕ

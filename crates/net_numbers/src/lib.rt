@@ -2,7 +2,7 @@
 #![tactic(auto)]
 
 ghost use Rattle.std.specs.Prelude.{◌≡◌, ◌≤◌};
-ghost use Rattle.lists.specs.Lists.{keep};
+ghost use Rattle.std.specs.List.{filter};
 ghost use Rattle.lists.specs.Tables.{pad};
 ghost use Rattle.sheet.specs.Geometry.{ends};
 ghost use Rattle.sheet.specs.Drawings.{wire_rows, component_rows, joint_rows, lists_of};
@@ -89,7 +89,7 @@ fn joint_numbers(ps: Points, js: Joints) -> Pads
 // The power symbols, in row order.
 fn powers(cs: Components) -> Components
     requires { cs.count ≤ 128 }
-    ensures { TabledParts (keep is_power (component_rows cs)) result }
+    ensures { TabledParts (filter is_power (component_rows cs)) result }
 {
     let n = cs.count;
     let mut out = no_parts();

@@ -9,7 +9,8 @@ use Prim.Native.Nat.{ℕ, zero, suc, ◌+◌, ◌≤◌, ◌<◌}
 use native.Mathlib.Omega.{arith}
 use lib.ListN.{length, length-append}
 use lib.Seq.{ext_get_or}
-use Rattle.lists.specs.Lists.{◌∈◌, gather}
+use Rattle.lists.specs.Lists.{◌∈◌}
+use Rattle.std.specs.List.{flat_map}
 use Rattle.lists.proofs.Lists.{in_gather, in_keep}
 use Rattle.lists.proofs.Tests.{eqb_reads}
 use Rattle.symbol.specs.declared.Point.{Point}
@@ -44,9 +45,9 @@ some_pad (suc zero) = omega arith
 some_pad (suc (suc k)) = omega arith
 
 pub pads_total : (cs : List Component) → pads_all (map entry cs) ≡ length (pads_of cs)
-unfolding pads_all gather
+unfolding pads_all
 pads_total [] = refl
-pads_total (c ∷ cs) = omega (arith, length-append (pads c) (gather pads cs), pads_by_kind c, pads_total cs)
+pads_total (c ∷ cs) = omega (arith, length-append (pads c) (flat_map pads cs), pads_by_kind c, pads_total cs)
 
 -- ---- power pads are on net 0
 
@@ -67,13 +68,12 @@ module _ (s : Sheet) where
 
   -- the components cs, whose first pad is pad i
   zeros : (cs : List Component) (i : ℕ) → ((c : Component) → c ∈ cs → c ∈ s.parts) → ((j : ℕ) (p : Point) → At (pads_of cs) j p → At (pads_of s.parts) (i + j) p) → Zeros (nth (net_numbers s)) i (map entry cs)
-  unfolding gather
   zeros [] i old at = tt
   zeros (c ∷ cs) i old at = (
     λ e.
         let p = at_some (pads c) 0 (omega (arith, pads_by_kind c, some_pad c.kind)) in
         let z : i + 0 ≡ i = omega arith in
-        zero_at c (old c (∈-head refl)) e (subst (λ k. At (pads_of s.parts) k p.0) z (at 0 p.0 (at_left (gather pads cs) p.1))) (at_in p.1),
+        zero_at c (old c (∈-head refl)) e (subst (λ k. At (pads_of s.parts) k p.0) z (at 0 p.0 (at_left (flat_map pads cs) p.1))) (at_in p.1),
     zeros cs (i + pads_in c.kind) (λ b m. old b (∈-tail m)) (λ j p a.
         let z : i + (length (pads c) + j) ≡ i + pads_in c.kind + j = omega (arith, pads_by_kind c) in
         subst (λ k. At (pads_of s.parts) k p) z (at (length (pads c) + j) p (at_right (pads c) a))),

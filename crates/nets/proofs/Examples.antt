@@ -2,7 +2,7 @@
 use mathlib.Core.Path.{◌≡◌, refl}
 use mathlib.Core.List.{[], ◌∷◌}
 use Prim.Native.Nat.{ℕ}
-use Rattle.lists.specs.Lists.{any}
+use Rattle.std.specs.List.{list_any}
 use Rattle.nets.specs.Nets.{Net}
 use Rattle.nets.specs.Numbers.{merged, net_from, first_net, net_of, rank, meet, number_from, numbering, numbers_of}
 
@@ -12,10 +12,10 @@ whole = record { links = (1, 2) ∷ (3, 4) ∷ (3, 7) ∷ (1, 4) ∷ []; powers 
 
 -- V+, then C, A and B of the contact, then N of the coil
 whole_output : numbers_of whole (3 ∷ 2 ∷ 5 ∷ 6 ∷ 7 ∷ []) ≡ 0 ∷ 0 ∷ 1 ∷ 2 ∷ 0 ∷ []
-unfolding numbers_of numbering number_from meet rank net_of net_from merged first_net any
+unfolding numbers_of numbering number_from meet rank net_of net_from merged first_net
 whole_output = refl
 
 -- links 3 to 1, then 3 to 2: all on net 1
 forgotten : numbers_of (record { links = (3, 1) ∷ (3, 2) ∷ []; powers = [] }) (1 ∷ 2 ∷ 3 ∷ 4 ∷ []) ≡ 1 ∷ 1 ∷ 1 ∷ 2 ∷ []
-unfolding numbers_of numbering number_from meet rank net_of net_from merged first_net any
+unfolding numbers_of numbering number_from meet rank net_of net_from merged first_net
 forgotten = refl

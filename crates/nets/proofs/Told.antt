@@ -9,7 +9,8 @@ use Prim.Native.Nat.{ℕ, ◌≤◌, ◌<◌}
 use native.Mathlib.Omega.{arith}
 use lib.Dec.{eqb}
 use lib.ListN.{length, get_or, length-map}
-use Rattle.lists.specs.Lists.{◌∈◌, any}
+use Rattle.lists.specs.Lists.{◌∈◌}
+use Rattle.std.specs.List.{list_any}
 use Rattle.lists.proofs.Lists.{any_reads}
 use Rattle.lists.proofs.Tests.{Reads, decide, choose, eqb_reads, reads_as}
 use Rattle.nets.specs.Nets.{Net, here, Fed, OneNet, by_chain, both_fed, Numbered}
@@ -38,7 +39,7 @@ module _ {P : Type 0} {J : P → Type 0} {powers : List P} {f : P → ℕ} where
       fed : (p : P) → J p → f p ≡ 0 → Fed (net_with powers []) p
       fed p jp e = record { power = p; placed = power p jp e; chain = here }
 
-pub start_reads : (powers : List ℕ) (n : ℕ) → Reads (n ∈ powers) (any (eqb n) powers)
+pub start_reads : (powers : List ℕ) (n : ℕ) → Reads (n ∈ powers) (list_any (eqb n) powers)
 start_reads powers n = reads_as (λ t. subst (λ m. m ∈ powers) (sym t.2) t.1, λ i. (n, i, refl)) (any_reads (eqb_reads n) powers)
 
 pub start_power : (powers : List ℕ) (n : ℕ) → n ∈ powers → first_net powers n ≡ 0

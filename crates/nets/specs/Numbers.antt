@@ -1,6 +1,6 @@
 -- Net numbers, computed: a number for the net of each point, and then "each net not met before gets the next number from 1".
 use Rattle.std.specs.Prelude.{cond, List, [], ◌∷◌, map, ℕ, suc, ◌-◌, min, max, eqb, length}
-use Rattle.lists.specs.Lists.{any}
+use Rattle.std.specs.List.{list_any}
 use Rattle.nets.specs.Nets.{Net}
 
 module _ {P : Type 0} where
@@ -15,7 +15,7 @@ module _ {P : Type 0} where
 
 -- before any wire a joint is on a net of its own number, and one with a power pad on net 0
 unfoldable pub first_net : List ℕ → ℕ → ℕ
-first_net powers n = cond (any (eqb n) powers) 0 n
+first_net powers n = cond (list_any (eqb n) powers) 0 n
 
 -- the net of a joint
 unfoldable pub net_of : Net ℕ → ℕ → ℕ

@@ -10,7 +10,8 @@ use mathlib.Core.List.{List, [], ◌∷◌}
 use mathlib.Core.Logic.{⊎_elim}
 use lib.Dec.{T, eqb→eq, eqb_refl}
 use lib.IntN.{ℤ, pos, negsuc}
-use Rattle.lists.specs.Lists.{◌∈◌, all}
+use Rattle.lists.specs.Lists.{◌∈◌}
+use Rattle.std.specs.List.{list_all}
 use Rattle.lists.proofs.Tests.{Reads, reads, reads_as, and_reads, test, holds}
 use Rattle.lists.proofs.Lists.{any_reads, all_reads}
 use Rattle.orientation.specs.Orientations.{eq_z, rot_mirror, eight, same_of, known}
@@ -40,7 +41,7 @@ pub below_8 : (P : ℕ → Type 0) → Each P (up_to 8) → (n : ℕ) → n < 8 
 below_8 P h n l = each P (in_up_to 8 l) h
 
 -- and a test that they pass
-pub test_8 : (f : ℕ → Bool) → T (all f (up_to 8)) → (n : ℕ) → n < 8 → T (f n)
+pub test_8 : (f : ℕ → Bool) → T (list_all f (up_to 8)) → (n : ℕ) → n < 8 → T (f n)
 test_8 f h n l = holds (all_reads (λ n. test (f n)) (up_to 8)) h n (in_up_to 8 l)
 
 -- ---- the same four numbers

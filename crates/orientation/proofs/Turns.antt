@@ -10,7 +10,7 @@ use lib.Dec.{T, ltb, ltb→lt}
 use lib.IntN.{neg_ℤ-neg_ℤ}
 use lib.ListN.{length, get_or, get_or-eq_default}
 use borrow.Author.Tests.{lt-ltb, le-ltb}
-use Rattle.lists.specs.Lists.{any, all}
+use Rattle.std.specs.List.{list_any, list_all}
 use Rattle.lists.specs.Span.{span}
 use Rattle.lists.proofs.Tests.{Reads, pass, fail, ltb_reads}
 use Rattle.orientation.specs.Orientations.{rot_mirror, eight, zeros, same_of, known, eighth, number_of, numbered_of, four_are, no_four, turn_is, no_turn, turn_by, turned_by, rights, lefts, mirrors, right_of, left_of, mirror_of}
@@ -66,7 +66,7 @@ eighth_mirror = follows mirror_of mirrors refl refl (refl, (refl, (refl, (refl, 
 
 -- a number is one of 0 to 7 exactly if its four numbers are one of the eight
 pub known_number : (n : ℕ) → known (eighth n) ≡ ltb n 8
-unfolding any same_of
+unfolding same_of
 known_number = every (λ (n : ℕ). known (eighth n) ≡ ltb n 8) (refl, (refl, (refl, (refl, (refl, (refl, (refl, (refl, tt)))))))) (λ n h. ap known (none n h) ∙ sym (le-ltb n 8 h))
 
 pub eighth_known : (n : ℕ) → n < 8 → T (known (eighth n))
@@ -86,19 +86,16 @@ eighth_number = of_eight (λ (o : RotMirror). (number_of o < 8) × (eighth (numb
 abbrev pub Stays : List ℕ → Type 0
 Stays t = (n : ℕ) → n < 8 → turn_by t n < 8
 
-stays : (t : List ℕ) → T (all (λ (n : ℕ). ltb (turn_by t n) 8) (up_to 8)) → Stays t
+stays : (t : List ℕ) → T (list_all (λ (n : ℕ). ltb (turn_by t n) 8) (up_to 8)) → Stays t
 stays t h n l = ltb→lt (turn_by t n) 8 (test_8 (λ (n : ℕ). ltb (turn_by t n) 8) h n l)
 
 pub right_stays : Stays rights
-unfolding all
 right_stays = stays rights tt
 
 pub left_stays : Stays lefts
-unfolding all
 left_stays = stays lefts tt
 
 pub mirror_stays : Stays mirrors
-unfolding all
 mirror_stays = stays mirrors tt
 
 -- ---- the calls

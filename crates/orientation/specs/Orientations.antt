@@ -1,6 +1,6 @@
 -- The eight orientations by their numbers, and the three turns.
 use Rattle.std.specs.Prelude.{ℕ, Bool, false, ◌&&◌, cond, not, List, [], ◌∷◌, eqb, ltb, ℤ, pos, negsuc, neg_ℤ, get_or}
-use Rattle.lists.specs.Lists.{any}
+use Rattle.std.specs.List.{list_any}
 use Rattle.lists.specs.Span.{span}
 use Rattle.orientation.specs.declared.RotMirror.{RotMirror}
 use Rattle.orientation.specs.declared.FourNumbers.{FourNumbers}
@@ -38,7 +38,7 @@ same_of o p = eq_z o.0 p.0 && (eq_z o.1 p.1 && (eq_z o.2 p.2 && eq_z o.3 p.3))
 
 -- "Orientation: four signed numbers that are one of the eight"
 abbrev pub known : RotMirror → Bool
-known o = any (same_of o) eight
+known o = list_any (same_of o) eight
 
 -- "zeros for every number"
 abbrev pub zeros : RotMirror

@@ -6,7 +6,8 @@ use mathlib.Core.List.{List}
 use mathlib.Core.Logic.{⊎_elim}
 use mathlib.Core.Path.{◌≡◌, sym, ap, subst, ◌∙◌}
 use lib.ListN.{length, get_or}
-use Rattle.lists.specs.Lists.{◌∈◌, keep, insert}
+use Rattle.lists.specs.Lists.{◌∈◌, insert}
+use Rattle.std.specs.List.{filter}
 use Rattle.lists.proofs.Lists.{keep_old, insert_in}
 use Rattle.lists.proofs.Tables.{row_in, holds_list}
 use Rattle.orientation.specs.declared.Turned.{Turned}
@@ -31,7 +32,7 @@ turned_part f c h e q = q ∙ ap (λ (t : Turned). reoriented (λ o. t.turn) c) 
 pub tabled_fit : {xs : List Component} {t : Components} → TabledParts xs t → ((c : Component) → c ∈ xs → PartFits c) → PartsFit t
 tabled_fit h f = record { room = omega (arith, h.count_is, h.room); each = λ c m. f c (subst (λ l. c ∈ l) (holds_list h) m) }
 
-pub kept_fit : (f : Component → Bool) {s t : Components} → PartsFit s → TabledParts (keep f (component_rows s)) t → PartsFit t
+pub kept_fit : (f : Component → Bool) {s t : Components} → PartsFit s → TabledParts (filter f (component_rows s)) t → PartsFit t
 kept_fit f {s} h k = tabled_fit k (λ c m. h.each c (keep_old f (component_rows s) m))
 
 pub inserted_fit : {s t : Components} {c : Component} → PartsFit s → PartFits c → TabledParts (insert ahead c (component_rows s)) t → PartsFit t

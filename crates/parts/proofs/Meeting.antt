@@ -3,7 +3,7 @@ use Prim.Native.Nat.{ℕ}
 use mathlib.Core.Bool.{Bool, true, false, not, ◌&&◌, beq}
 use mathlib.Core.List.{List}
 use mathlib.Core.Path.{◌≡◌, refl, ap, ◌∙◌}
-use Rattle.lists.specs.Lists.{keep}
+use Rattle.std.specs.List.{filter}
 use Rattle.lists.proofs.Tables.{holds_as}
 use Rattle.symbol.specs.declared.Point.{Point}
 use Rattle.symbol.specs.declared.Bounds.{Bounds}
@@ -24,8 +24,8 @@ told_true true = refl
 told_true false = refl
 
 -- the same components, kept by an equal test
-kept_as : (cs : List Component) {r : Components} {f g : Component → Bool} → ((c : Component) → f c ≡ g c) → TabledParts (keep f cs) r → TabledParts (keep g cs) r
-kept_as cs e h = holds_as (λ i. keep (λ c. e c i) cs) h
+kept_as : (cs : List Component) {r : Components} {f g : Component → Bool} → ((c : Component) → f c ≡ g c) → TabledParts (filter f cs) r → TabledParts (filter g cs) r
+kept_as cs e h = holds_as (λ i. filter (λ c. e c i) cs) h
 
 module _ (p : Point) (size : ℕ) {b : Bounds} (e : b ≡ square p size) where
   every : (c : Component) → met b true c ≡ meets_part p size c
@@ -37,11 +37,11 @@ module _ (p : Point) (size : ℕ) {b : Bounds} (e : b ≡ square p size) where
   contact c = ap (λ a. is_contact c && touches_of a (box c)) e
 
   module _ (cs : List Component) {r : Components} where
-    pub unmet_parts : TabledParts (keep (λ c. beq (met b true c) false) cs) r → TabledParts (keep (λ c. not (meets_part p size c)) cs) r
+    pub unmet_parts : TabledParts (filter (λ c. beq (met b true c) false) cs) r → TabledParts (filter (λ c. not (meets_part p size c)) cs) r
     unmet_parts h = kept_as cs (λ c. told_false (met b true c) ∙ ap not (every c)) h
 
-    pub unhit_parts : TabledParts (keep (λ c. beq (met b false c) false) cs) r → TabledParts (keep (λ c. not (hits p size c)) cs) r
+    pub unhit_parts : TabledParts (filter (λ c. beq (met b false c) false) cs) r → TabledParts (filter (λ c. not (hits p size c)) cs) r
     unhit_parts h = kept_as cs (λ c. told_false (met b false c) ∙ ap not (contact c)) h
 
-    pub hit_parts : TabledParts (keep (λ c. beq (met b false c) true) cs) r → TabledParts (keep (hits p size) cs) r
+    pub hit_parts : TabledParts (filter (λ c. beq (met b false c) true) cs) r → TabledParts (filter (hits p size) cs) r
     hit_parts h = kept_as cs (λ c. told_true (met b false c) ∙ contact c) h

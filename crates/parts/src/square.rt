@@ -1,7 +1,7 @@
 // Components that the square about the pointer meets.
 ghost use Rattle.std.specs.Prelude.{◌≡◌, not, ◌≤◌};
 ghost use Rattle.std.specs.Bool.{beq};
-ghost use Rattle.lists.specs.Lists.{keep};
+ghost use Rattle.std.specs.List.{filter};
 ghost use Rattle.sheet.specs.Edits;
 ghost use Rattle.sheet.specs.Drawings.{component_rows};
 ghost use Rattle.parts.specs.Tables.{PartsFit, TabledParts, met};
@@ -14,7 +14,7 @@ use wires::square::square;
 // The components that the box meets, or those that it does not, in order.
 fn keep_met(cs: Components, b: Bounds, every: bool, hit: bool) -> Components
     requires { PartsFit cs }
-    ensures { TabledParts (keep (λ c. beq (met b every c) hit) (component_rows cs)) result }
+    ensures { TabledParts (filter (λ c. beq (met b every c) hit) (component_rows cs)) result }
 {
     let n = cs.count;
     let mut out = no_parts();
@@ -34,7 +34,7 @@ fn keep_met(cs: Components, b: Bounds, every: bool, hit: bool) -> Components
 // The components that the square does not meet.
 pub fn keep_unmet(cs: Components, p: Point, size: u16) -> Components
     requires { PartsFit cs × ((p.x ≤ 12000) × ((p.y ≤ 12000) × (size ≤ 1000))) }
-    ensures { TabledParts (keep (λ c. not (Edits.meets_part p size c)) (component_rows cs)) result }
+    ensures { TabledParts (filter (λ c. not (Edits.meets_part p size c)) (component_rows cs)) result }
 {
     let b = square(p, size);
     keep_met(cs, b, true, false)
@@ -43,7 +43,7 @@ pub fn keep_unmet(cs: Components, p: Point, size: u16) -> Components
 // All components but the contacts that the square meets.
 pub fn keep_unhit(cs: Components, p: Point, size: u16) -> Components
     requires { PartsFit cs × ((p.x ≤ 12000) × ((p.y ≤ 12000) × (size ≤ 1000))) }
-    ensures { TabledParts (keep (λ c. not (Edits.hits p size c)) (component_rows cs)) result }
+    ensures { TabledParts (filter (λ c. not (Edits.hits p size c)) (component_rows cs)) result }
 {
     let b = square(p, size);
     keep_met(cs, b, false, false)
@@ -52,7 +52,7 @@ pub fn keep_unhit(cs: Components, p: Point, size: u16) -> Components
 // The contacts that the square meets.
 pub fn hit_contacts(cs: Components, p: Point, size: u16) -> Components
     requires { PartsFit cs × ((p.x ≤ 12000) × ((p.y ≤ 12000) × (size ≤ 1000))) }
-    ensures { TabledParts (keep (Edits.hits p size) (component_rows cs)) result }
+    ensures { TabledParts (filter (Edits.hits p size) (component_rows cs)) result }
 {
     let b = square(p, size);
     keep_met(cs, b, false, true)

@@ -1,6 +1,6 @@
 // Components whose boxes share a point.
 ghost use Rattle.std.specs.Prelude.{◌≡◌, true};
-ghost use Rattle.lists.specs.Lists.{any};
+ghost use Rattle.std.specs.List.{list_any};
 ghost use Rattle.lists.specs.First.{first_row};
 ghost use Rattle.sheet.specs.Parts;
 ghost use Rattle.sheet.specs.Drawings.{component_rows};
@@ -40,7 +40,7 @@ pub fn first_touched(cs: Components, c: Component) -> usize
 // Some component of the table touches c.
 pub fn touches_any(cs: Components, c: Component) -> bool
     requires { PartsFit cs × Parts.PartFits c }
-    ensures { result ≡ any (Parts.touches c) (component_rows cs) }
+    ensures { result ≡ list_any (Parts.touches c) (component_rows cs) }
 {
     first_touched(cs, c) < cs.count
 }

@@ -6,7 +6,8 @@ use mathlib.Core.List.{List}
 use mathlib.Core.Path.{◌≡◌, refl, subst}
 use lib.Dec.{T}
 use lib.IntN.{ℤ}
-use Rattle.lists.specs.Lists.{◌∈◌, any}
+use Rattle.lists.specs.Lists.{◌∈◌}
+use Rattle.std.specs.List.{list_any}
 use Rattle.lists.specs.First.{FirstAt, first_row}
 use Rattle.lists.proofs.Tests.{passes}
 use Rattle.lists.proofs.First.{first_row_lem, first_in}
@@ -57,10 +58,10 @@ module _ {d : Drawing} (z : Sized d) (t : Tally) (k o : ℕ) (x y : ℤ) (b : La
   abbrev Free : Type 0
   Free = (a : Component) → a ∈ cs → Touch c a → ⊥
 
-  first_touched : any (touches c) cs ≡ true → FirstAt (Touch c) cs (first_row (touches c) cs)
+  first_touched : list_any (touches c) cs ≡ true → FirstAt (Touch c) cs (first_row (touches c) cs)
   first_touched e = first_row_lem (touches c) (touches_reads c) cs e
 
-  untouched : any (touches c) cs ≡ false → Free
+  untouched : list_any (touches c) cs ≡ false → Free
   untouched e a m h = subst T e (passes (touched_reads c cs) (a, m, h))
 
   place_room : WhichRoom (Lawful d × ((n ≡ 0) × Free)) (place_one c (lists_of d)) (checked d t call)

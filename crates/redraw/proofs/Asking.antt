@@ -6,7 +6,7 @@ use borrow.Author.Tests.{eq-eqb, ne_eqb}
 use lib.IntN.{ℤ}
 use mir.Syntax.{w32}
 use mir.Val.{SFits, to_z, of_z}
-use Rattle.lists.specs.Lists.{any}
+use Rattle.std.specs.List.{list_any}
 use Rattle.lists.specs.First.{first_row}
 use Rattle.lists.proofs.Tests.{Reads, pass, fail, eqb_reads}
 use Rattle.edge.specs.Coordinates.{to_ℕ}
@@ -72,10 +72,10 @@ part_decides d k o x y l t q = subst (λ (a : AskedPart). Decides d t a.reply (u
     go (fail f) = not_made f
 
 module _ (d : Drawing) (t : Tally) (a : AskedPart) where
-  pub touched_refused : {row : ℕ} → row ≡ first_row (touches a.part) (lists_of d).parts → any (touches a.part) (lists_of d).parts ≡ true → refused_at row 6 d t ≡ untouched d t a
+  pub touched_refused : {row : ℕ} → row ≡ first_row (touches a.part) (lists_of d).parts → list_any (touches a.part) (lists_of d).parts ≡ true → refused_at row 6 d t ≡ untouched d t a
   touched_refused q e = (λ i. refused_at (q i) 6 d t) ∙ rw e
 
-  pub untouched_edited : any (touches a.part) (lists_of d).parts ≡ false → edited d t (quiet (place_one a.part (lists_of d))) ≡ untouched d t a
+  pub untouched_edited : list_any (touches a.part) (lists_of d).parts ≡ false → edited d t (quiet (place_one a.part (lists_of d))) ≡ untouched d t a
   untouched_edited e = rw e
 
 pub pointer_decides : (d : Drawing) (x y n : ℤ) (t : Tally) (edit : Point → ℕ → Outcome) {a : AskedPointer} → a ≡ asked_pointer x y n → Decides d t a.reply (edited d t (edit a.point a.size)) (pointed d x y n t edit)

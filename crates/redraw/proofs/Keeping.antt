@@ -5,7 +5,7 @@ use mathlib.Core.Bool.{true, false}
 use mathlib.Core.Path.{◌≡◌, sym, subst, ◌∙◌}
 use borrow.Author.Tests.{lt-ltb, le-ltb}
 use lib.Dec.{T, ltb}
-use Rattle.lists.specs.Lists.{any}
+use Rattle.std.specs.List.{list_any}
 use Rattle.lists.specs.First.{first_row}
 use Rattle.lists.proofs.First.{first_below}
 use Rattle.lists.proofs.Tests.{passes}
@@ -37,16 +37,16 @@ lawful_sound l z = record {
 
 -- the first row that touches c tells whether one does
 module _ {d : Drawing} (l : Lawful d) (z : Sized d) (c : Component) {row : ℕ} (q : row ≡ first_row (touches c) (lists_of d).parts) where
-  within : ltb row d.components.count ≡ any (touches c) (lists_of d).parts
+  within : ltb row d.components.count ≡ list_any (touches c) (lists_of d).parts
   within = first_below (touches c) d.components.rows d.components.count q (omega (arith, z.components, l.rule1.component_room))
 
-  pub some_touched : row < d.components.count → any (touches c) (lists_of d).parts ≡ true
+  pub some_touched : row < d.components.count → list_any (touches c) (lists_of d).parts ≡ true
   some_touched h = sym within ∙ lt-ltb row d.components.count h
 
-  pub none_touched : d.components.count ≤ row → any (touches c) (lists_of d).parts ≡ false
+  pub none_touched : d.components.count ≤ row → list_any (touches c) (lists_of d).parts ≡ false
   none_touched h = sym within ∙ le-ltb row d.components.count h
 
-pub placed_good : (c : Component) (s : Sheet) → PartFits c → Good s → any (touches c) s.parts ≡ false → Good (place_one c s)
+pub placed_good : (c : Component) (s : Sheet) → PartFits c → Good s → list_any (touches c) s.parts ≡ false → Good (place_one c s)
 placed_good c s f g e = place_good c s f g (λ b m t. subst T e (passes (touched_reads c s.parts) (b, m, t)))
 
 pub acted_good : (a : Act) (p : Point) (n : ℕ) (s : Sheet) → Good s → Good (acted a p n s).sheet

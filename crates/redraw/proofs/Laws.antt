@@ -6,7 +6,7 @@ use mathlib.Core.Path.{◌≡◌, refl, sym, ap, subst}
 use mathlib.Core.Logic.{⊎_elim}
 use lib.IntN.{ℤ}
 use lib.ListN.{length}
-use Rattle.lists.specs.Lists.{any}
+use Rattle.std.specs.List.{list_any}
 use Rattle.lists.specs.First.{first_row}
 use Rattle.lists.proofs.Tests.{decide, eqb_reads}
 use Rattle.label.specs.declared.Label.{Label}
@@ -53,9 +53,9 @@ by_room P {d} {t} o f g h = go (room_told o.sheet)
 
 -- by whether a placed component is touched
 pub by_touch : (P : Edited → Type 0) (d : Drawing) (t : Tally) (c : Component) {x : Edited}
-    → (any (touches c) (lists_of d).parts ≡ true → P (refused_at (first_row (touches c) (lists_of d).parts) 6 d t))
-    → (any (touches c) (lists_of d).parts ≡ false → P x) → P (refused_touching c d t x)
-by_touch P d t c {x} f g = go (any (touches c) (lists_of d).parts) f g
+    → (list_any (touches c) (lists_of d).parts ≡ true → P (refused_at (first_row (touches c) (lists_of d).parts) 6 d t))
+    → (list_any (touches c) (lists_of d).parts ≡ false → P x) → P (refused_touching c d t x)
+by_touch P d t c {x} f g = go (list_any (touches c) (lists_of d).parts) f g
   where
     go : {y : Edited} (b : Bool) → (b ≡ true → P y) → (b ≡ false → P x) → P (cond b y x)
     go true f g = f refl

@@ -2,7 +2,7 @@
 -- "Order: 10, 9, 4, 1, 2, 3, 5, 6, 7, 8; the first that applies.", with 11 "straight after 7" (document 02, P4). 4, 1, 2, 3 and 5, which what
 -- is asked alone decides, are `Replies`'s; 6, 7 and 11, which the drawing decides, follow here.
 use Rattle.std.specs.Prelude.{ℕ, Bool, cond, ℤ}
-use Rattle.lists.specs.Lists.{any}
+use Rattle.std.specs.List.{list_any}
 use Rattle.lists.specs.First.{first_row}
 use Rattle.edge.specs.Coordinates.{to_ℕ}
 use Rattle.label.specs.declared.Label.{Label}
@@ -55,7 +55,7 @@ add_wire d vertical line start end t = refused_by (wire_reply line start end) d 
 abbrev pub refused_touching : Component → Drawing → Tally → Edited → Edited
 refused_touching c d t other =
     let placed = (lists_of d).parts in
-    cond (any (touches c) placed) (refused_at (first_row (touches c) placed) 6 d t) other
+    cond (list_any (touches c) placed) (refused_at (first_row (touches c) placed) 6 d t) other
 
 -- "Place.": 4, 1, 5, 6, then the edit
 unfoldable pub add_component : Drawing → ℕ → ℕ → ℤ → ℤ → Label → Tally → Edited

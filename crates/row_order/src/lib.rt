@@ -2,7 +2,8 @@
 #![tactic(auto)]
 
 ghost use Rattle.std.specs.Prelude.{◌≡◌, not, ◌≤◌, drop};
-ghost use Rattle.lists.specs.Lists.{all, links};
+ghost use Rattle.lists.specs.Lists.{links};
+ghost use Rattle.std.specs.List.{list_all};
 ghost use Rattle.sheet.specs.Points.{rises};
 ghost use Rattle.sheet.specs.Joints.{joint_point};
 ghost use Rattle.sheet.specs.Parts.{ahead};
@@ -21,7 +22,7 @@ fn shares(a: Wire, b: Wire) -> bool
 // The wire shares no length with the rows from k on.
 fn apart_from(ws: Wires, a: Wire, k: usize) -> bool
     requires { ws.count ≤ 512 }
-    ensures { result ≡ all (λ b. not (share a b)) (drop k (wire_rows ws)) }
+    ensures { result ≡ list_all (λ b. not (share a b)) (drop k (wire_rows ws)) }
 {
     let n = ws.count;
     let mut j = k;

@@ -7,7 +7,8 @@ use native.Mathlib.Omega.{arith}
 use lib.Dec.{T}
 use lib.ListN.{length, length-take, replicate}
 use lib.Seq.{take-append_seam}
-use Rattle.lists.specs.Lists.{any, all, pairs, links}
+use Rattle.lists.specs.Lists.{pairs, links}
+use Rattle.std.specs.List.{list_any, list_all}
 use Rattle.lists.specs.Tables.{pad}
 use Rattle.lists.proofs.Tests.{holds}
 use Rattle.sheet.specs.declared.Joint.{Joint}
@@ -51,14 +52,14 @@ module _ (d : Drawing) (w : Within d) (js : Joints) (e : js ≡ joint_table (joi
   unfolding joints
   joints_fit = subst (λ (t : Joints). t.count ≤ 1408) (sym e) (joint_room room)
 
-  pub by_3 : all (λ j. free (lists_of d).wires (joint_point j)) (joint_rows js) ≡ check3 (lists_of d).wires (pads_of (lists_of d).parts)
-  by_3 = ap (all (λ j. free (lists_of d).wires (joint_point j))) rows_are ∙ rule_3_joints (lists_of d).wires (pads_of (lists_of d).parts)
+  pub by_3 : list_all (λ j. free (lists_of d).wires (joint_point j)) (joint_rows js) ≡ check3 (lists_of d).wires (pads_of (lists_of d).parts)
+  by_3 = ap (list_all (λ j. free (lists_of d).wires (joint_point j))) rows_are ∙ rule_3_joints (lists_of d).wires (pads_of (lists_of d).parts)
 
-  pub by_4 : AllFit (lists_of d).wires → check2 (lists_of d).wires ≡ true → all (parted (lists_of d).wires (joint_rows js)) (lists_of d).wires ≡ check4 (lists_of d).wires (pads_of (lists_of d).parts)
-  by_4 fits two = ap (λ (l : List Joint). all (parted (lists_of d).wires l) (lists_of d).wires) rows_are ∙ rule_4_counts (pads_of (lists_of d).parts) fits (holds (reads2 (lists_of d).wires) (subst T (sym two) tt))
+  pub by_4 : AllFit (lists_of d).wires → check2 (lists_of d).wires ≡ true → list_all (parted (lists_of d).wires (joint_rows js)) (lists_of d).wires ≡ check4 (lists_of d).wires (pads_of (lists_of d).parts)
+  by_4 fits two = ap (λ (l : List Joint). list_all (parted (lists_of d).wires l) (lists_of d).wires) rows_are ∙ rule_4_counts (pads_of (lists_of d).parts) fits (holds (reads2 (lists_of d).wires) (subst T (sym two) tt))
 
-  pub by_6 : (pairs (λ i j. not (same (joint_point i) (joint_point j))) (joint_rows d.joints) && (all (λ i. any (same_row i) (joint_rows d.joints)) (joint_rows js) && all (λ j. any (same_row j) (joint_rows js)) (joint_rows d.joints))) ≡ check6 (joint_rows d.joints) (marks_of (lists_of d))
-  by_6 = ap (λ (l : List Joint). pairs (λ i j. not (same (joint_point i) (joint_point j))) (joint_rows d.joints) && (all (λ i. any (same_row i) (joint_rows d.joints)) l && all (λ j. any (same_row j) l) (joint_rows d.joints))) rows_are ∙ rule_6_rows (joint_rows d.joints) (marks_of (lists_of d))
+  pub by_6 : (pairs (λ i j. not (same (joint_point i) (joint_point j))) (joint_rows d.joints) && (list_all (λ i. list_any (same_row i) (joint_rows d.joints)) (joint_rows js) && list_all (λ j. list_any (same_row j) (joint_rows js)) (joint_rows d.joints))) ≡ check6 (joint_rows d.joints) (marks_of (lists_of d))
+  by_6 = ap (λ (l : List Joint). pairs (λ i j. not (same (joint_point i) (joint_point j))) (joint_rows d.joints) && (list_all (λ i. list_any (same_row i) (joint_rows d.joints)) l && list_all (λ j. list_any (same_row j) l) (joint_rows d.joints))) rows_are ∙ rule_6_rows (joint_rows d.joints) (marks_of (lists_of d))
 
 -- ---- the ways out
 

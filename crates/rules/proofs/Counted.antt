@@ -4,7 +4,8 @@ use mathlib.Core.List.{List, ◌∷◌}
 use mathlib.Core.Path.{◌≡◌, sym, ap, subst, ◌∙◌}
 use mathlib.Core.Logic.{⊎_elim, ◌⊎◌, inl, inr}
 use native.Mathlib.Omega.{arith}
-use Rattle.lists.specs.Lists.{◌∈◌, Rows, any, all, pairs}
+use Rattle.lists.specs.Lists.{◌∈◌, Rows, pairs}
+use Rattle.std.specs.List.{list_any, list_all}
 use Rattle.lists.proofs.Tests.{Reads, same_test, stable, decide, reads_as, not_reads, and_reads, or_reads, eqb_reads, beq_reads}
 use Rattle.lists.proofs.Lists.{any_reads, all_reads, pairs_reads}
 use Rattle.symbol.specs.declared.Point.{Point}
@@ -25,14 +26,14 @@ use Rattle.rules.specs.Steps.{parted, same_row}
 use Rattle.rules.proofs.Decides.{free_reads, reads3, reads4, reads6}
 
 -- the points of wire ends and pads are those of the joints
-pub rule_3_joints : (ws : List Wire) (ps : List Point) → all (λ j. free ws (joint_point j)) (joints_of (marks ws ps)) ≡ check3 ws ps
+pub rule_3_joints : (ws : List Wire) (ps : List Point) → list_all (λ j. free ws (joint_point j)) (joints_of (marks ws ps)) ≡ check3 ws ps
 rule_3_joints ws ps = same_test (reads_as (into, out) (all_reads (λ j. free_reads ws (joint_point j)) js)) (reads3 ws ps)
   where
     js : List Joint
     js = joints_of (marks ws ps)
 
     into : ((j : Joint) → j ∈ js → (w : Wire) → w ∈ ws → Inside (joint_point j) w → ⊥) → Rule3 ws ps
-    into f p m = let t = (joints_listed (marks ws ps)).all p m in subst (λ q. (w : Wire) → w ∈ ws → Inside q w → ⊥) t.2 (f t.0 t.1)
+    into f p m = let t = (joints_listed (marks ws ps)).list_all p m in subst (λ q. (w : Wire) → w ∈ ws → Inside q w → ⊥) t.2 (f t.0 t.1)
 
     out : Rule3 ws ps → (j : Joint) → j ∈ js → (w : Wire) → w ∈ ws → Inside (joint_point j) w → ⊥
     out r j m = r (joint_point j) ((joints_listed (marks ws ps)).only j m)
@@ -43,7 +44,7 @@ goes_on_reads a b = reads_as (λ t. record { dir = t.0; line = t.1.0; end = t.1.
     (and_reads (beq_reads a.vertical b.vertical) (and_reads (eqb_reads a.line b.line) (eqb_reads a.end b.start)))
 
 -- where no wires share a length, rule 4 is that more than two ends lie where one goes on in line
-pub rule_4_counts : {ws : List Wire} (ps : List Point) → AllFit ws → Rule2 ws → all (parted ws (joints_of (marks ws ps))) ws ≡ check4 ws ps
+pub rule_4_counts : {ws : List Wire} (ps : List Point) → AllFit ws → Rule2 ws → list_all (parted ws (joints_of (marks ws ps))) ws ≡ check4 ws ps
 unfolding parted
 rule_4_counts {ws} ps fits two = same_test
     (reads_as (into, out) (all_reads (λ a. or_reads (not_reads (any_reads (goes_on_reads a) ws)) (not_reads (eqb_reads (count_at (tip high a) (joints_of (marks ws ps))) 2))) ws)) (reads4 ws ps)
@@ -70,7 +71,7 @@ row_reads i j = reads_as (
 
 -- the joint rows list what the joints counted afresh list
 pub rule_6_rows : (js : List Joint) (ps : List Point)
-    → (pairs (λ i j. not (same (joint_point i) (joint_point j))) js && (all (λ i. any (same_row i) js) (joints_of ps) && all (λ j. any (same_row j) (joints_of ps)) js)) ≡ check6 js ps
+    → (pairs (λ i j. not (same (joint_point i) (joint_point j))) js && (list_all (λ i. list_any (same_row i) js) (joints_of ps) && list_all (λ j. list_any (same_row j) (joints_of ps)) js)) ≡ check6 js ps
 rule_6_rows js ps = same_test
     (reads_as (into, out)
     (and_reads (pairs_reads (λ i j. not_reads (same_reads (joint_point i) (joint_point j))) js)
@@ -87,7 +88,7 @@ rule_6_rows js ps = same_test
     into : Rows (λ i j. joint_point i ≡ joint_point j → ⊥) js × (Among (joints_of ps) js × Among js (joints_of ps)) → Rule6 js ps
     into t = record {
       once = t.0;
-      all = λ p m. let i = there.all p m in let j = t.1.0 i.0 i.1 in (j.0, j.1, sym (ap joint_point j.2) ∙ i.2);
+      list_all = λ p m. let i = there.list_all p m in let j = t.1.0 i.0 i.1 in (j.0, j.1, sym (ap joint_point j.2) ∙ i.2);
       only = λ j m. let i = t.1.1 j m in subst (λ k. joint_point k ∈ ps) (sym i.2) (there.only i.0 i.1);
       right = λ j m. let i = t.1.1 j m in subst (λ (k : Joint). k.count ≡ number (joint_point k) ps) (sym i.2) (there.right i.0 i.1);
     }
@@ -95,7 +96,7 @@ rule_6_rows js ps = same_test
     -- two lists of the same points have the same rows
     one : (xs ys : List Joint) → Rule6 xs ps → Rule6 ys ps → Among xs ys
     one xs ys a b i m =
-        let j = b.all (joint_point i) (a.only i m) in
+        let j = b.list_all (joint_point i) (a.only i m) in
         let c : i.count ≡ j.0.count = a.right i m ∙ ap (λ p. number p ps) (sym j.2) ∙ sym (b.right j.0 j.1) in
         (j.0, j.1, λ k. record { x = ap (λ (p : Point). p.x) (sym j.2) k; y = ap (λ (p : Point). p.y) (sym j.2) k; count = c k })
 

@@ -4,7 +4,8 @@ use mathlib.Core.List.{List}
 use mathlib.Core.Path.{◌≡◌}
 use mathlib.Core.Logic.{◌⊎◌, inl, inr}
 use native.Mathlib.Omega.{arith}
-use Rattle.lists.specs.Lists.{◌∈◌, keep}
+use Rattle.lists.specs.Lists.{◌∈◌}
+use Rattle.std.specs.List.{filter}
 use Rattle.lists.proofs.Tests.{Reads, reads_as, not_reads, and_reads, or_reads, eqb_reads}
 use Rattle.lists.proofs.Lists.{any_reads, all_reads, pairs_reads, keep_old}
 use Rattle.symbol.specs.declared.Point.{Point}
@@ -39,7 +40,7 @@ counted_end : (v : Bool) (ws : List Wire) (p : Point) → ends_at v ws p ≡ 2 �
 unfolding ends_at
 counted_end v ws p e =
     let f : Wire → Bool = λ w. beq w.vertical v in
-    let r = ends_in (keep f ws) (number_in p (ends (keep f ws)) (omega arith)) in
+    let r = ends_in (filter f ws) (number_in p (ends (filter f ws)) (omega arith)) in
     in_ends (r.0, keep_old f ws r.1, r.2)
 
 pub reads4 : (ws : List Wire) (ps : List Point) → Reads (Rule4 ws ps) (check4 ws ps)

@@ -1,7 +1,8 @@
 -- The drawing check: "names the first broken rule in this order". Each test is that of a rule of `sheet`'s Rules, in its order; those of
 -- rules 1, 2 and 7 are `limits`' and `row_order`'s.
 use Rattle.std.specs.Prelude.{ℕ, suc, Bool, true, false, ◌&&◌, ◌||◌, cond, not, List, [], ◌∷◌, eqb}
-use Rattle.lists.specs.Lists.{any, all, pairs}
+use Rattle.lists.specs.Lists.{pairs}
+use Rattle.std.specs.List.{list_any, list_all}
 use Rattle.symbol.specs.declared.Point.{Point}
 use Rattle.sheet.specs.declared.Wire.{Wire}
 use Rattle.sheet.specs.declared.Component.{Component}
@@ -22,19 +23,19 @@ use Rattle.rules.specs.declared.Touching.{Touching}
 
 -- the point lies strictly inside no wire
 unfoldable pub free : List Wire → Point → Bool
-free ws p = all (λ w. not (inside p w)) ws
+free ws p = list_all (λ w. not (inside p w)) ws
 
 -- rule 3: each wire end and pad is free
 unfoldable pub check3 : List Wire → List Point → Bool
-check3 ws ps = all (free ws) (marks ws ps)
+check3 ws ps = list_all (free ws) (marks ws ps)
 
 -- the point holds exactly two wire ends, of direction v, and no pad
 unfoldable pub bare : Bool → List Wire → List Point → Point → Bool
-bare v ws ps p = eqb (ends_at v ws p) 2 && (eqb (ends_at (not v) ws p) 0 && not (any (same p) ps))
+bare v ws ps p = eqb (ends_at v ws p) 2 && (eqb (ends_at (not v) ws p) 0 && not (list_any (same p) ps))
 
 -- rule 4
 unfoldable pub check4 : List Wire → List Point → Bool
-check4 ws ps = all (λ p. not (bare false ws ps p || bare true ws ps p)) (ends ws)
+check4 ws ps = list_all (λ p. not (bare false ws ps p || bare true ws ps p)) (ends ws)
 
 -- ---- rule 5: "it stops at the first pair of boxes that share a point, by lower row and then higher, and tells both rows, counted from 0"
 
@@ -58,8 +59,8 @@ touching_from i (c ∷ cs) = touching_one i c (suc i) cs (touching_from (suc i) 
 unfoldable pub check6 : List Joint → List Point → Bool
 check6 js ps =
     pairs (λ i j. not (same (joint_point i) (joint_point j))) js
-    && (all (λ p. any (λ j. same (joint_point j) p) js) ps
-    && all (λ j. any (same (joint_point j)) ps && eqb j.count (number (joint_point j) ps)) js)
+    && (list_all (λ p. list_any (λ j. same (joint_point j) p) js) ps
+    && list_all (λ j. list_any (same (joint_point j)) ps && eqb j.count (number (joint_point j) ps)) js)
 
 -- ---- the first broken rule
 

@@ -1,6 +1,6 @@
 -- Below the calls: the tests that the plain check makes row by row.
 use Rattle.std.specs.Prelude.{Bool, ◌&&◌, ◌||◌, not, List, ◌≤◌, eqb}
-use Rattle.lists.specs.Lists.{any}
+use Rattle.std.specs.List.{list_any}
 use Rattle.sheet.specs.declared.Wire.{Wire}
 use Rattle.sheet.specs.declared.Joint.{Joint}
 use Rattle.sheet.specs.declared.Drawing.{Drawing}
@@ -12,7 +12,7 @@ use Rattle.merge.specs.Following.{goes_on}
 
 -- the wire goes on in line in no other, or more than the two ends lie where they meet
 unfoldable pub parted : List Wire → List Joint → Wire → Bool
-parted ws js a = not (any (goes_on a) ws) || not (eqb (count_at (tip high a) js) 2)
+parted ws js a = not (list_any (goes_on a) ws) || not (eqb (count_at (tip high a) js) 2)
 
 -- the two joint rows are one
 unfoldable pub same_row : Joint → Joint → Bool

@@ -1,6 +1,6 @@
 // Rules 3 and 4, over the joints of the wires and pads, counted afresh.
 ghost use Rattle.std.specs.Prelude.{◌≡◌, ◌≤◌};
-ghost use Rattle.lists.specs.Lists.{any, all};
+ghost use Rattle.std.specs.List.{list_any, list_all};
 ghost use Rattle.sheet.specs.Joints.{joint_point, count_at};
 ghost use Rattle.sheet.specs.Drawings.{wire_rows, joint_rows};
 ghost use Rattle.rules.specs.Check.{free};
@@ -32,7 +32,7 @@ fn is_free(ws: Wires, p: Point) -> bool
 // No joint lies strictly inside a wire.
 pub fn none_inside(ws: Wires, js: Joints) -> bool
     requires { (ws.count ≤ 512) × (js.count ≤ 1408) }
-    ensures { result ≡ all (λ j. free (wire_rows ws) (joint_point j)) (joint_rows js) }
+    ensures { result ≡ list_all (λ j. free (wire_rows ws) (joint_point j)) (joint_rows js) }
 {
     let n = js.count;
     let mut i = 0;
@@ -49,7 +49,7 @@ pub fn none_inside(ws: Wires, js: Joints) -> bool
 // Some wire goes on in line where a ends.
 fn some_goes_on(ws: Wires, a: Wire) -> bool
     requires { ws.count ≤ 512 }
-    ensures { result ≡ any (goes_on a) (wire_rows ws) }
+    ensures { result ≡ list_any (goes_on a) (wire_rows ws) }
 {
     let n = ws.count;
     let mut i = 0;
@@ -91,7 +91,7 @@ fn is_parted(ws: Wires, js: Joints, a: Wire) -> bool
 // Where a wire goes on in line in another, more than their two ends meet.
 pub fn all_parted(ws: Wires, js: Joints) -> bool
     requires { (ws.count ≤ 512) × (js.count ≤ 1408) }
-    ensures { result ≡ all (parted (wire_rows ws) (joint_rows js)) (wire_rows ws) }
+    ensures { result ≡ list_all (parted (wire_rows ws) (joint_rows js)) (wire_rows ws) }
 {
     let n = ws.count;
     let mut i = 0;

@@ -1,6 +1,7 @@
 // Rule 6, against the joints counted afresh.
 ghost use Rattle.std.specs.Prelude.{◌≡◌, not, ◌&&◌, ◌≤◌, drop};
-ghost use Rattle.lists.specs.Lists.{any, all, pairs};
+ghost use Rattle.lists.specs.Lists.{pairs};
+ghost use Rattle.std.specs.List.{list_any, list_all};
 ghost use Rattle.sheet.specs.Points.{same};
 ghost use Rattle.sheet.specs.Joints.{joint_point};
 ghost use Rattle.sheet.specs.Drawings.{joint_rows};
@@ -23,7 +24,7 @@ fn is_same_row(i: Joint, j: Joint) -> bool
 // None of the rows from k on lies where a lies.
 fn apart_from(js: Joints, a: Joint, k: usize) -> bool
     requires { js.count ≤ 1408 }
-    ensures { result ≡ all (λ b. not (same (joint_point a) (joint_point b))) (drop k (joint_rows js)) }
+    ensures { result ≡ list_all (λ b. not (same (joint_point a) (joint_point b))) (drop k (joint_rows js)) }
 {
     let n = js.count;
     let mut j = k;
@@ -57,7 +58,7 @@ fn all_apart(js: Joints) -> bool
 // The row is among the rows.
 fn has_row(js: Joints, i: Joint) -> bool
     requires { js.count ≤ 1408 }
-    ensures { result ≡ any (same_row i) (joint_rows js) }
+    ensures { result ≡ list_any (same_row i) (joint_rows js) }
 {
     let n = js.count;
     let mut k = 0;
@@ -74,7 +75,7 @@ fn has_row(js: Joints, i: Joint) -> bool
 // Each row of the first is among the second.
 fn all_among(is: Joints, js: Joints) -> bool
     requires { (is.count ≤ 1408) × (js.count ≤ 1408) }
-    ensures { result ≡ all (λ i. any (same_row i) (joint_rows js)) (joint_rows is) }
+    ensures { result ≡ list_all (λ i. list_any (same_row i) (joint_rows js)) (joint_rows is) }
 {
     let n = is.count;
     let mut k = 0;
@@ -91,7 +92,7 @@ fn all_among(is: Joints, js: Joints) -> bool
 // The rows are those counted afresh, in any order, each once.
 pub fn all_listed(js: Joints, counted: Joints) -> bool
     requires { (js.count ≤ 1408) × (counted.count ≤ 1408) }
-    ensures { result ≡ (pairs (λ i j. not (same (joint_point i) (joint_point j))) (joint_rows js) && (all (λ i. any (same_row i) (joint_rows js)) (joint_rows counted) && all (λ j. any (same_row j) (joint_rows counted)) (joint_rows js))) }
+    ensures { result ≡ (pairs (λ i j. not (same (joint_point i) (joint_point j))) (joint_rows js) && (list_all (λ i. list_any (same_row i) (joint_rows js)) (joint_rows counted) && list_all (λ j. list_any (same_row j) (joint_rows counted)) (joint_rows js))) }
 {
     all_apart(js) & (all_among(counted, js) & all_among(js, counted))
 }

@@ -2,7 +2,7 @@
 use mathlib.Core.Path.{◌≡◌, refl, ap}
 use mathlib.Core.Bool.{Bool, true, false, cond, beq}
 use mathlib.Core.List.{List, [], ◌∷◌, ◌++◌}
-use Rattle.lists.specs.Lists.{keep, gather}
+use Rattle.std.specs.List.{filter, flat_map}
 use Rattle.sheet.specs.declared.Wire.{Wire}
 use Rattle.sheet.specs.declared.Component.{Component}
 use Rattle.saved.specs.File.{wire_bytes, directed}
@@ -21,11 +21,11 @@ module _ (v : Bool) (w : Wire) where
   unfolding wire_if
   wire_no e = λ i. cond (e i) (wire_bytes w) []
 
-pub wires_if : (v : Bool) (ws : List Wire) → gather (wire_if v) ws ≡ gather wire_bytes (directed v ws)
-unfolding gather keep wire_if
+pub wires_if : (v : Bool) (ws : List Wire) → flat_map (wire_if v) ws ≡ flat_map wire_bytes (directed v ws)
+unfolding wire_if
 wires_if v [] = refl
 wires_if v (w ∷ ws) = go (beq w.vertical v) (wires_if v ws)
   where
-    go : (b : Bool) → gather (wire_if v) ws ≡ gather wire_bytes (directed v ws) → cond b (wire_bytes w) [] ++ gather (wire_if v) ws ≡ gather wire_bytes (cond b (w ∷ directed v ws) (directed v ws))
+    go : (b : Bool) → flat_map (wire_if v) ws ≡ flat_map wire_bytes (directed v ws) → cond b (wire_bytes w) [] ++ flat_map (wire_if v) ws ≡ flat_map wire_bytes (cond b (w ∷ directed v ws) (directed v ws))
     go true ih = ap (λ l. wire_bytes w ++ l) ih
     go false ih = ih

@@ -1,6 +1,6 @@
 // The rows of a file.
 ghost use Rattle.std.specs.Prelude.{◌≡◌, ◌≤◌, length};
-ghost use Rattle.lists.specs.Lists.{gather};
+ghost use Rattle.std.specs.List.{flat_map};
 ghost use Rattle.sheet.specs.Drawings.{wire_rows, component_rows};
 ghost use Rattle.text.specs.Text.{Put, Room};
 ghost use Rattle.saved.specs.File.{wire_bytes, label_bytes, part_bytes, directed};
@@ -53,8 +53,8 @@ pub(crate) fn count_wires(ws: Wires, vertical: bool) -> u32
 // The wires of the direction.
 pub(crate) fn put_wires(out: &mut [u8], at: usize, ws: Wires, vertical: bool) -> usize
     requires few { ws.count ≤ 512 }
-    requires room { Room at (gather wire_bytes (directed vertical (wire_rows ws))) }
-    ensures { Put out.old at (gather wire_bytes (directed vertical (wire_rows ws))) out.new result }
+    requires room { Room at (flat_map wire_bytes (directed vertical (wire_rows ws))) }
+    ensures { Put out.old at (flat_map wire_bytes (directed vertical (wire_rows ws))) out.new result }
 {
     let n = ws.count;
     let mut next = at;
@@ -93,8 +93,8 @@ fn put_component(out: &mut [u8], at: usize, c: Component) -> usize
 // All components.
 pub(crate) fn put_components(out: &mut [u8], at: usize, cs: Components) -> usize
     requires few { cs.count ≤ 128 }
-    requires room { Room at (gather part_bytes (component_rows cs)) }
-    ensures { Put out.old at (gather part_bytes (component_rows cs)) out.new result }
+    requires room { Room at (flat_map part_bytes (component_rows cs)) }
+    ensures { Put out.old at (flat_map part_bytes (component_rows cs)) out.new result }
 {
     let n = cs.count;
     let mut next = at;

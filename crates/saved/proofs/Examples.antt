@@ -7,7 +7,7 @@ use mathlib.Core.List.{[], ◌∷◌}
 use native.Mathlib.Omega.{arith}
 use lib.ListN.{replicate}
 use borrow.Author.Tests.{eq-eqb, ne_eqb}
-use Rattle.lists.specs.Lists.{keep, gather}
+use Rattle.std.specs.List.{filter, flat_map}
 use Rattle.lists.specs.Tables.{pad}
 use Rattle.lists.proofs.Lists.{in_one}
 use Rattle.label.specs.Labels.{label_part, padded}
@@ -75,11 +75,11 @@ small = record {
 
 small_file : file_of small
     ≡ 1 ∷ 240 ∷ 46 ∷ 190 ∷ 46 ∷ 162 ∷ 47 ∷ 1 ∷ 212 ∷ 47 ∷ 0 ∷ 10 ∷ 1 ∷ 2 ∷ 4 ∷ 240 ∷ 46 ∷ 240 ∷ 46 ∷ 2 ∷ 75 ∷ 49 ∷ []
-unfolding file_of small groups_of groups_in gather keep wire_bytes part_bytes label_bytes label_part
+unfolding file_of small groups_of groups_in wire_bytes part_bytes label_bytes label_part
 small_file = refl
 
 small_read : take_sheet (file_of small) ≡ took small []
-unfolding file_of small groups_of groups_in gather keep wire_bytes part_bytes label_bytes label_part take_sheet take_in take_number later_groups then times take_wire take_part take_label take_graphic padded
+unfolding file_of small groups_of groups_in wire_bytes part_bytes label_bytes label_part take_sheet take_in take_number later_groups then times take_wire take_part take_label take_graphic padded
 small_read = refl
 
 -- the empty drawing
@@ -87,7 +87,6 @@ empty_lawful : Lawful (drawn empty_sheet)
 empty_lawful = drawn_lawful (record { wires = omega arith; parts = omega arith }) empty_good
 
 empty_in : SheetIn empty_sheet
-unfolding keep
 empty_in = record { wires = omega arith; parts = omega arith; order = refl; levels = λ w m. absurd (∈-nil m); uprights = λ w m. absurd (∈-nil m); each = λ c m. absurd (∈-nil m) }
 
 empty_sized : Sized (drawn empty_sheet)
@@ -106,7 +105,7 @@ flat : Sheet
 flat = record { wires = record { vertical = false; line = 6000; start = 6000; end = 6000 } ∷ []; parts = [] }
 
 flat_in : SheetIn flat
-unfolding flat keep
+unfolding flat
 flat_in = record {
   wires = omega arith;
   parts = omega arith;

@@ -7,7 +7,8 @@ use mathlib.Core.List.{List, [], ◌∷◌}
 use Prim.Native.Nat.{ℕ, ◌+◌, ◌*◌, ◌≤◌}
 use native.Mathlib.Omega.{arith}
 use lib.ListN.{length, length-append}
-use Rattle.lists.specs.Lists.{◌∈◌, gather}
+use Rattle.lists.specs.Lists.{◌∈◌}
+use Rattle.std.specs.List.{flat_map}
 use Rattle.label.specs.Labels.{label_part}
 use Rattle.label.proofs.Labels.{label_short}
 use Rattle.sheet.specs.declared.Wire.{Wire}
@@ -38,8 +39,8 @@ pub length_part : (c : Component) → length (part_bytes c)
 unfolding part_bytes
 length_part c = simp length-append
 
-pub length_listed : {A : Type 0} (f : A → List ℕ) (xs : List A) → length (listed f xs) ≡ length (groups_of (length xs)) + length (gather f xs)
-length_listed f xs = length-append (groups_of (length xs)) (gather f xs)
+pub length_listed : {A : Type 0} (f : A → List ℕ) (xs : List A) → length (listed f xs) ≡ length (groups_of (length xs)) + length (flat_map f xs)
+length_listed f xs = length-append (groups_of (length xs)) (flat_map f xs)
 
 pub length_file : (s : Sheet) → length (file_of s)
     ≡ length (listed wire_bytes (directed false s.wires)) + (length (listed wire_bytes (directed true s.wires)) + length (listed part_bytes s.parts))
@@ -48,10 +49,9 @@ length_file s = simp length-append
 
 -- ---- how long at most
 
-length_each : {A : Type 0} (f : A → List ℕ) (k : ℕ) (xs : List A) → ((x : A) → x ∈ xs → length (f x) ≤ k) → length (gather f xs) ≤ k * length xs
-unfolding gather
+length_each : {A : Type 0} (f : A → List ℕ) (k : ℕ) (xs : List A) → ((x : A) → x ∈ xs → length (f x) ≤ k) → length (flat_map f xs) ≤ k * length xs
 length_each f k [] h = omega arith
-length_each f k (x ∷ xs) h = omega (arith, h x (∈-head refl), length_each f k xs (λ y m. h y (∈-tail m)), length-append (f x) (gather f xs))
+length_each f k (x ∷ xs) h = omega (arith, h x (∈-head refl), length_each f k xs (λ y m. h y (∈-tail m)), length-append (f x) (flat_map f xs))
 
 wire_short : {w : Wire} {v : Bool} → WireIn v w → length (wire_bytes w) ≤ 6
 wire_short {w} h = omega (arith, length_wire w, length_two w.line (omega (arith, h.line)), length_two w.start (omega (arith, h.start)), length_two w.end (omega (arith, h.end)))

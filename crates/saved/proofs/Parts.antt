@@ -5,7 +5,8 @@ use Prim.Native.Nat.{ℕ, zero, suc, ◌≤◌, ◌<◌}
 use native.Mathlib.Omega.{arith}
 use lib.Dec.{T}
 use lib.ListN.{length, take}
-use Rattle.lists.specs.Lists.{◌∈◌, all}
+use Rattle.lists.specs.Lists.{◌∈◌}
+use Rattle.std.specs.List.{list_all}
 use Rattle.lists.proofs.Tests.{test, holds, passes}
 use Rattle.lists.proofs.Lists.{all_reads}
 use Rattle.label.specs.Labels.{graphic, padded, label_part}
@@ -23,7 +24,7 @@ use Rattle.saved.specs.Reading.{take_part}
 use Rattle.saved.proofs.Rows.{IsGraphic, LabelIn, label_codes}
 
 -- the bytes that hold a label
-all_graphic : (l : List ℕ) → ((b : ℕ) → b ∈ l → IsGraphic b) → T (all graphic l)
+all_graphic : (l : List ℕ) → ((b : ℕ) → b ∈ l → IsGraphic b) → T (list_all graphic l)
 all_graphic l h = passes (all_reads (λ b. test (graphic b)) l) h
 
 length_padded : (n : ℕ) (l : List ℕ) → length (padded n l) ≡ n

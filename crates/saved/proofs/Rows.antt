@@ -7,7 +7,8 @@ use Prim.Native.Nat.{ℕ, zero, suc, ◌≤◌, ◌<◌}
 use native.Mathlib.Omega.{arith}
 use lib.Dec.{T}
 use lib.ListN.{length, take}
-use Rattle.lists.specs.Lists.{◌∈◌, gather}
+use Rattle.lists.specs.Lists.{◌∈◌}
+use Rattle.std.specs.List.{flat_map}
 use Rattle.lists.proofs.Tests.{test}
 use Rattle.lists.proofs.Passes.{gather_each}
 use Rattle.label.specs.Labels.{graphic}
@@ -93,7 +94,7 @@ unfolding take_graphic
 graphic_cut b t zero h = refl
 graphic_cut b t (suc k) h = absurd (omega arith)
 
-graphics : (n : ℕ) → Codes (λ bs. (length bs ≡ n) × ((b : ℕ) → b ∈ bs → IsGraphic b)) (gather raw) (times take_graphic n)
+graphics : (n : ℕ) → Codes (λ bs. (length bs ≡ n) × ((b : ℕ) → b ∈ bs → IsGraphic b)) (flat_map raw) (times take_graphic n)
 graphics n = times_codes (record { back = graphic_back; cut = graphic_cut; only = graphic_only }) n
 
 -- a label

@@ -6,7 +6,8 @@ use mathlib.Core.List.{List, [], ◌∷◌, ◌++◌, append_assoc, append-nil}
 use Prim.Native.Nat.{ℕ, ◌+◌, ◌-◌, ◌≤◌, ◌<◌}
 use native.Mathlib.Omega.{arith}
 use lib.ListN.{length, take, length-append}
-use Rattle.lists.specs.Lists.{◌∈◌, Rows, none, more, keep, gather}
+use Rattle.lists.specs.Lists.{◌∈◌, Rows, none, more}
+use Rattle.std.specs.List.{filter, flat_map}
 use Rattle.lists.proofs.Tests.{Reads, beq_reads, clash}
 use Rattle.lists.proofs.Lists.{in_cons, keep_all, keep_none}
 use Rattle.lists.proofs.Appends.{keep_append}
@@ -57,7 +58,6 @@ after_upright (up d l) e = sym d ∙ e
 after_upright (along d l s) e = sym d ∙ e
 
 first_level : (w : Wire) (ws : List Wire) → w.vertical ≡ false → directed false ws ++ directed true ws ≡ ws → directed false (w ∷ ws) ++ directed true (w ∷ ws) ≡ w ∷ ws
-unfolding keep
 first_level w ws e ih =
     (λ i. cond (beq (e i) false) (w ∷ directed false ws) (directed false ws) ++ cond (beq (e i) true) (w ∷ directed true ws) (directed true ws))
     ∙ ap {B = List Wire} (λ l. w ∷ l) ih
@@ -66,7 +66,7 @@ all_upright : (ws : List Wire) → AllOf true ws → directed false ws ++ direct
 all_upright ws h = ap₂ ◌++◌ (other_direction false true ws h (λ e. clash refl e)) (same_direction true ws h)
 
 pub levels_first : {ws : List Wire} → Rows Upward ws → directed false ws ++ directed true ws ≡ ws
-levels_first none = unfold keep in refl
+levels_first none = unfold filter in refl
 levels_first (more {x = w} {xs = ws} h r) = go w.vertical refl (levels_first r)
   where
     go : (v : Bool) → w.vertical ≡ v → directed false ws ++ directed true ws ≡ ws → directed false (w ∷ ws) ++ directed true (w ∷ ws) ≡ w ∷ ws
@@ -95,11 +95,11 @@ sheet_back s rest h =
     let cs = s.parts in
     let both : length hs + length vs ≡ length s.wires = sym (length-append hs vs) ∙ ap length h.order in
     let n1 = groups_of (length hs) in
-    let b1 = gather wire_bytes hs in
+    let b1 = flat_map wire_bytes hs in
     let n2 = groups_of (length vs) in
-    let b2 = gather wire_bytes vs in
+    let b2 = flat_map wire_bytes vs in
     let n3 = groups_of (length cs) in
-    let b3 = gather part_bytes cs in
+    let b3 = flat_map part_bytes cs in
     let flat : ((n1 ++ b1) ++ ((n2 ++ b2) ++ (n3 ++ b3))) ++ rest ≡ n1 ++ (b1 ++ (n2 ++ (b2 ++ (n3 ++ (b3 ++ rest))))) = simp append_assoc in
     rw (
       flat,
@@ -116,9 +116,9 @@ listed_cut : {A : Type 0} {Ok : A → Type 0} {w : A → List ℕ} {f : List ℕ
     → ((k : ℕ) → k < length r → g (length xs) xs (take k r) ≡ short) → (k : ℕ) → k < length (listed w xs ++ r) → then (take_in 0 most (take k (listed w xs ++ r))) (λ n s. then (times f n s) (g n)) ≡ short
 listed_cut {w = w} {f = f} g most small c xs few each r later k h =
     let n = groups_of (length xs) in
-    let flat = append_assoc n (gather w xs) r in
+    let flat = append_assoc n (flat_map w xs) r in
     ap (λ l. then (take_in 0 most (take k l)) (λ m s. then (times f m s) (g m))) flat
-    ∙ cut_then _ (rooms most small) (length xs) (omega arith, few) (gather w xs ++ r) (cut_then (g (length xs)) (times_codes c (length xs)) xs (refl, each) r later) k (omega (arith, ap length flat))
+    ∙ cut_then _ (rooms most small) (length xs) (omega arith, few) (flat_map w xs ++ r) (cut_then (g (length xs)) (times_codes c (length xs)) xs (refl, each) r later) k (omega (arith, ap length flat))
 
 pub sheet_cut : (s : Sheet) → SheetIn s → (k : ℕ) → k < length (file_of s) → take_sheet (take k (file_of s)) ≡ short
 unfolding take_sheet file_of
@@ -181,7 +181,7 @@ sheet_only s h =
     let c2 = o4.ok.0 in
     let c3 = o6.ok.0 in
     told (record {
-      is = o1.is ∙ (λ i. groups_of (sym c1 i) ++ (o2.is ∙ ap (λ t. gather wire_bytes hs ++ t) (o3.is ∙ (λ j. groups_of (sym c2 j) ++ (o4.is ∙ ap (λ t. gather wire_bytes vs ++ t) (o5.is ∙ (λ k. groups_of (sym c3 k) ++ o6.is k))) j))) i)
+      is = o1.is ∙ (λ i. groups_of (sym c1 i) ++ (o2.is ∙ ap (λ t. flat_map wire_bytes hs ++ t) (o3.is ∙ (λ j. groups_of (sym c2 j) ++ (o4.is ∙ ap (λ t. flat_map wire_bytes vs ++ t) (o5.is ∙ (λ k. groups_of (sym c3 k) ++ o6.is k))) j))) i)
           ∙ sym (ap (λ t. t ++ s6) (sheet_bytes hs vs cs w) ∙ simp append_assoc);
       ok = sheet_in hs vs cs w (omega (arith, o5.ok.1, c3)) o6.ok.1;
       bytes = o6.bytes;

@@ -3,7 +3,7 @@
 -- row order." Rows hold coordinates plus 6,000 already.
 use Rattle.std.specs.Prelude.{ℕ, Bool, true, false, List, ◌++◌, length}
 use Rattle.std.specs.Bool.{beq}
-use Rattle.lists.specs.Lists.{keep, gather}
+use Rattle.std.specs.List.{filter, flat_map}
 use Rattle.label.specs.Labels.{label_part}
 use Rattle.sheet.specs.declared.Wire.{Wire}
 use Rattle.sheet.specs.declared.Component.{Component}
@@ -25,11 +25,11 @@ part_bytes c =
 
 -- how many, and each
 abbrev pub listed : {A : Type 0} → (A → List ℕ) → List A → List ℕ
-listed f xs = groups_of (length xs) ++ gather f xs
+listed f xs = groups_of (length xs) ++ flat_map f xs
 
 -- the wires of a direction, in row order; "no for horizontal"
 abbrev pub directed : Bool → List Wire → List Wire
-directed v ws = keep (λ w. beq w.vertical v) ws
+directed v ws = filter (λ w. beq w.vertical v) ws
 
 -- the file
 unfoldable pub file_of : Sheet → List ℕ

@@ -9,7 +9,8 @@ use mathlib.Core.List.{List, ◌++◌}
 use mathlib.Core.Path.{◌≡◌, refl, sym, subst, ap, ap₂, ◌∙◌}
 use mathlib.Core.Logic.{⊎_elim, inl, inr, ◌↔◌}
 use lib.Dec.{T}
-use Rattle.lists.specs.Lists.{◌∈◌, any, keep, insert, none}
+use Rattle.lists.specs.Lists.{◌∈◌, insert, none}
+use Rattle.std.specs.List.{list_any, filter}
 use Rattle.lists.proofs.Tests.{test, not_reads, Reads}
 use Rattle.lists.proofs.Lists.{any_reads, keep_all, keep_old, insert_in, in_insert, gather_in, in_gather}
 use Rattle.lists.proofs.Order.{rows_keep, rows_insert}
@@ -35,7 +36,7 @@ abbrev pub Clear : Component → Component → Type 0
 Clear b c = Shares (box b) (box c) → ⊥
 
 -- some component of the list touches c
-pub touched_reads : (c : Component) (cs : List Component) → Reads ((b : Component) × b ∈ cs × Shares (box c) (box b)) (any (touches c) cs)
+pub touched_reads : (c : Component) (cs : List Component) → Reads ((b : Component) × b ∈ cs × Shares (box c) (box b)) (list_any (touches c) cs)
 touched_reads c cs = any_reads (touches_reads c) cs
 
 pub empty_good : Good empty_sheet
@@ -96,7 +97,7 @@ place_good c s fit good free = record {
 module _ (f : Wire → Bool) (g : Component → Bool) (s : Sheet) where
   -- the components that are left
   abbrev left_parts : List Component
-  left_parts = keep (λ c. not (g c)) s.parts
+  left_parts = filter (λ c. not (g c)) s.parts
 
   pub remove_good : Good s → Good (remove f g s)
   unfolding remove

@@ -1,6 +1,7 @@
 -- The drawing board, computed.
 use mathlib.Core.Path.{refl}
-use Rattle.lists.specs.Lists.{any, keep, insert, gather}
+use Rattle.lists.specs.Lists.{insert}
+use Rattle.std.specs.List.{list_any, filter, flat_map}
 use Rattle.edge.specs.Coordinates.{biased}
 use Rattle.sheet.specs.Points.{same, rises}
 use Rattle.sheet.specs.Geometry.{ends, inside, on, meets, first}
@@ -14,7 +15,7 @@ use Rattle.sheet.specs.Edits.{wire, place_one, remove, meets_wire, meets_part, d
 use Rattle.sheet.specs.Examples.{Board}
 
 pub board : Board
-unfolding any keep insert gather biased same rises ends inside on meets first split_one split_at split_all held_apart joins glue merge_by merge kept run rest standing lay lay_wire draw_wire bump joints_of total count_at box pads touches joints wire place_one remove meets_wire meets_part delete place_all turn hits turn_right
+unfolding insert biased same rises ends inside on meets first split_one split_at split_all held_apart joins glue merge_by merge kept run rest standing lay lay_wire draw_wire bump joints_of total count_at box pads touches joints wire place_one remove meets_wire meets_part delete place_all turn hits turn_right
 board = record {
   first = refl;
   three = refl;

@@ -9,7 +9,8 @@ use mathlib.Core.Path.{◌≡◌, refl, sym, subst, ap, ◌∙◌}
 use mathlib.Core.Logic.{⊎_elim, ◌↔◌}
 use native.Mathlib.Omega.{arith}
 use lib.ListN.{length}
-use Rattle.lists.specs.Lists.{◌∈◌, gather, none, more}
+use Rattle.lists.specs.Lists.{◌∈◌, none, more}
+use Rattle.std.specs.List.{flat_map}
 use Rattle.lists.proofs.Tests.{decide, choose, ltb_reads}
 use Rattle.lists.proofs.Order.{rows_all, rows_ext}
 use Rattle.symbol.specs.declared.Point.{Point}
@@ -133,6 +134,6 @@ length_joints [] = omega arith
 length_joints (p ∷ ps) = omega (arith, length_bump p (joints_of ps), length_joints ps)
 
 pub length_ends : (ws : List Wire) → length (ends ws) ≡ 2 * length ws
-unfolding ends gather
+unfolding ends
 length_ends [] = refl
 length_ends (w ∷ ws) = let ih = length_ends ws in omega arith

@@ -5,7 +5,8 @@ use mathlib.Core.Path.{◌≡◌, refl, sym, ap, ◌∙◌}
 use mathlib.Core.Logic.{⊎_elim, ◌⊎◌, inl, inr}
 use native.Mathlib.Omega.{arith}
 use lib.Dec.{T}
-use Rattle.lists.specs.Lists.{◌∈◌, keep, Rows}
+use Rattle.lists.specs.Lists.{◌∈◌, Rows}
+use Rattle.std.specs.List.{filter}
 use Rattle.lists.proofs.Tests.{test, holds, choose, not_not, same_or_turned}
 use Rattle.lists.proofs.Lists.{keep_old}
 use Rattle.lists.proofs.Order.{rows_keep, rows_all, rows_chain}
@@ -27,11 +28,11 @@ merge_from h a [] = a ∷ []
 merge_from h a (b ∷ bs) = cond (joins h a b) (merge_from h (join a b) bs) (a ∷ merge_from h b bs)
 
 -- taking wires and pads away leaves the rest clean
-pub clean_keep : (f : Wire → Bool) {ws : List Wire} {ps qs : List Point} → ((p : Point) → p ∈ qs → p ∈ ps) → Clean ws ps → Clean (keep f ws) qs
+pub clean_keep : (f : Wire → Bool) {ws : List Wire} {ps qs : List Point} → ((p : Point) → p ∈ qs → p ∈ ps) → Clean ws ps → Clean (filter f ws) qs
 clean_keep f {ws} {ps} {qs} fewer c = record {
   fits = λ w m. c.fits w (keep_old f ws m);
   order = rows_keep f c.order;
-  clear = λ p m w n. c.clear p (in_marks (⊎_elim (λ (x : HasEnd p (keep f ws)). inl (x.0, keep_old f ws x.1, x.2)) (λ (x : p ∈ qs). inr (fewer p x)) (marks_in (keep f ws) m))) w (keep_old f ws n);
+  clear = λ p m w n. c.clear p (in_marks (⊎_elim (λ (x : HasEnd p (filter f ws)). inl (x.0, keep_old f ws x.1, x.2)) (λ (x : p ∈ qs). inr (fewer p x)) (marks_in (filter f ws) m))) w (keep_old f ws n);
 }
 
 module _ {ws : List Wire} {ps : List Point} (c : Clean ws ps) where

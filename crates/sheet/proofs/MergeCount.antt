@@ -8,7 +8,8 @@ use mathlib.Core.List.{List, [], ◌∷◌}
 use mathlib.Core.Path.{◌≡◌, refl, sym, subst, ap, ◌∙◌}
 use native.Mathlib.Omega.{arith}
 use lib.Dec.{T, eqb}
-use Rattle.lists.specs.Lists.{◌∈◌, keep}
+use Rattle.lists.specs.Lists.{◌∈◌}
+use Rattle.std.specs.List.{filter}
 use Rattle.lists.proofs.Tests.{test, stable, reads_as, not_reads, same_test, eqb_reads}
 use Rattle.lists.proofs.Lists.{keep_old}
 use Rattle.symbol.specs.declared.Point.{Point}
@@ -51,7 +52,7 @@ merge_by_count {ws} {ps} c = merge_cong (λ d p. not (eqb (count_at p (joints_of
     same_test (reads_as (λ f. stable h (λ g. f (s ∙ count_two ps c.fits r a b m n e g)), λ x k. omega (arith, s, k, count_above ps c.fits r a b m n e x)) (not_reads (eqb_reads (count_at (tip high a) (joints_of (marks ws ps))) 2))) h)
 
 -- "A point that falls from 3 or more ..": where wires are kept of which one goes on in line where another ends, 3 or more stood before
-pub fell : (f : Wire → Bool) {ws : List Wire} {ps : List Point} → Wired ws ps → (a b : Wire) → a ∈ keep f ws → b ∈ keep f ws → Follows a b → 3 ≤ number (tip high a) (marks ws ps)
+pub fell : (f : Wire → Bool) {ws : List Wire} {ps : List Point} → Wired ws ps → (a b : Wire) → a ∈ filter f ws → b ∈ filter f ws → Follows a b → 3 ≤ number (tip high a) (marks ws ps)
 fell f {ws} {ps} l a b m n e = three (keep_old f ws m) (keep_old f ws n)
   where
     three : a ∈ ws → b ∈ ws → 3 ≤ number (tip high a) (marks ws ps)

@@ -7,7 +7,8 @@ use mathlib.Core.List.{List, [], ◌∷◌, ◌++◌, Permᴰ}
 use mathlib.Core.Path.{◌≡◌, refl, ◌∙◌}
 use native.Mathlib.Omega.{arith}
 use lib.ListN.{length}
-use Rattle.lists.specs.Lists.{◌∈◌, keep, gather}
+use Rattle.lists.specs.Lists.{◌∈◌}
+use Rattle.std.specs.List.{filter, flat_map}
 use Rattle.lists.proofs.Tests.{choose}
 use Rattle.symbol.specs.declared.Point.{Point}
 use Rattle.sheet.specs.Points.{same}
@@ -34,15 +35,15 @@ number_append p (q ∷ qs) rs = step (same p q) (number_append p qs rs)
     step false e = e
 
 -- the rows that pass a test and those that do not
-pub number_parts : {A : Type 0} (f : A → Bool) (g : A → List Point) (p : Point) (xs : List A) → number p (gather g xs) ≡ number p (gather g (keep f xs)) + number p (gather g (keep (λ x. not (f x)) xs))
-unfolding gather keep number
+pub number_parts : {A : Type 0} (f : A → Bool) (g : A → List Point) (p : Point) (xs : List A) → number p (flat_map g xs) ≡ number p (flat_map g (filter f xs)) + number p (flat_map g (filter (λ x. not (f x)) xs))
+unfolding number
 number_parts f g p [] = refl
 number_parts f g p (x ∷ xs) = step (f x) (number_parts f g p xs)
   where
-    step : (b : Bool) → number p (gather g xs) ≡ number p (gather g (keep f xs)) + number p (gather g (keep (λ y. not (f y)) xs))
-        → number p (g x ++ gather g xs) ≡ number p (gather g (cond b (x ∷ keep f xs) (keep f xs))) + number p (gather g (cond (not b) (x ∷ keep (λ y. not (f y)) xs) (keep (λ y. not (f y)) xs)))
-    step true e = omega (arith, number_append p (g x) (gather g xs), number_append p (g x) (gather g (keep f xs)))
-    step false e = omega (arith, number_append p (g x) (gather g xs), number_append p (g x) (gather g (keep (λ y. not (f y)) xs)))
+    step : (b : Bool) → number p (flat_map g xs) ≡ number p (flat_map g (filter f xs)) + number p (flat_map g (filter (λ y. not (f y)) xs))
+        → number p (g x ++ flat_map g xs) ≡ number p (flat_map g (cond b (x ∷ filter f xs) (filter f xs))) + number p (flat_map g (cond (not b) (x ∷ filter (λ y. not (f y)) xs) (filter (λ y. not (f y)) xs)))
+    step true e = omega (arith, number_append p (g x) (flat_map g xs), number_append p (g x) (flat_map g (filter f xs)))
+    step false e = omega (arith, number_append p (g x) (flat_map g xs), number_append p (g x) (flat_map g (filter (λ y. not (f y)) xs)))
 
 pub number_length : (p : Point) (qs : List Point) → number p qs ≤ length qs
 unfolding number

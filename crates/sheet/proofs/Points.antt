@@ -6,7 +6,8 @@ use mathlib.Core.Path.{◌≡◌, refl, sym, ap}
 use mathlib.Core.Logic.{⊎_elim, ◌⊎◌, inl, inr, ◌↔◌}
 use native.Mathlib.Omega.{arith}
 use Rattle.symbol.specs.declared.Point.{Point}
-use Rattle.lists.specs.Lists.{◌∈◌, Rows, any}
+use Rattle.lists.specs.Lists.{◌∈◌, Rows}
+use Rattle.std.specs.List.{list_any}
 use Rattle.lists.proofs.Adjacent.{Adjacent}
 use Rattle.sheet.specs.Points.{same, Rise, lower, level, rises}
 use Rattle.lists.proofs.Tests.{Reads, reads_as, and_reads, or_reads, eqb_reads, ltb_reads, compare}
@@ -20,7 +21,7 @@ pub same_reads : (p q : Point) → Reads (p ≡ q) (same p q)
 unfolding same
 same_reads p q = reads_as (λ t. point_path t.0 t.1, λ e. (ap (λ (r : Point). r.x) e, ap (λ (r : Point). r.y) e)) (and_reads (eqb_reads p.x q.x) (eqb_reads p.y q.y))
 
-pub member_reads : (p : Point) (ps : List Point) → Reads (p ∈ ps) (any (same p) ps)
+pub member_reads : (p : Point) (ps : List Point) → Reads (p ∈ ps) (list_any (same p) ps)
 member_reads p ps = reads_as (λ t. ∈-cast t.2 t.1, λ m. (p, m, refl)) (any_reads (same_reads p) ps)
 
 pub rises_reads : (p q : Point) → Reads (Rise p q) (rises p q)

@@ -7,7 +7,8 @@ use mathlib.Core.Path.{◌≡◌, refl, subst}
 use mathlib.Core.Logic.{◌↔◌}
 use native.Mathlib.Omega.{arith}
 use lib.ListN.{length}
-use Rattle.lists.specs.Lists.{any, keep, insert}
+use Rattle.lists.specs.Lists.{insert}
+use Rattle.std.specs.List.{list_any, filter}
 use Rattle.lists.proofs.Tests.{choose}
 use Rattle.lists.proofs.Appends.{length_keep, length_insert}
 use Rattle.symbol.specs.declared.Point.{Point}
@@ -53,7 +54,7 @@ merge_no_longer ws ps = merged_no_longer (merged (held_reads ws ps) ws)
 
 pub remove_no_longer : (f : Wire → Bool) (g : Component → Bool) (s : Sheet) → length (remove f g s).wires ≤ length s.wires
 unfolding remove
-remove_no_longer f g s = omega (arith, merge_no_longer (keep (λ w. not (f w)) s.wires) (pads_of (keep (λ c. not (g c)) s.parts)), length_keep (λ w. not (f w)) s.wires)
+remove_no_longer f g s = omega (arith, merge_no_longer (filter (λ w. not (f w)) s.wires) (pads_of (filter (λ c. not (g c)) s.parts)), length_keep (λ w. not (f w)) s.wires)
 
 -- ---- place, and turn
 
@@ -72,7 +73,7 @@ place_all_no_shorter (c ∷ cs) s = choose (touched_reads c s.parts) (λ (o : Pl
 pub place_all_append : (bs cs : List Component) (s : Sheet) → (place_all (bs ++ cs) s).sheet ≡ (place_all cs (place_all bs s).sheet).sheet
 unfolding place_all
 place_all_append [] cs s = refl
-place_all_append (b ∷ bs) cs s = step (any (touches b) s.parts) (place_all_append bs cs s) (place_all_append bs cs (place_one b s))
+place_all_append (b ∷ bs) cs s = step (list_any (touches b) s.parts) (place_all_append bs cs s) (place_all_append bs cs (place_one b s))
   where
     step : (t : Bool)
         → (place_all (bs ++ cs) s).sheet ≡ (place_all cs (place_all bs s).sheet).sheet

@@ -7,7 +7,8 @@ use mathlib.Core.List.{List, [], ◌∷◌}
 use mathlib.Core.Path.{◌≡◌, refl, sym, subst, ap, ◌∙◌}
 use mathlib.Core.Logic.{⊎_elim, inl, inr, ◌↔◌}
 use native.Mathlib.Omega.{arith}
-use Rattle.lists.specs.Lists.{◌∈◌, keep, gather, Rows, none, more}
+use Rattle.lists.specs.Lists.{◌∈◌, Rows, none, more}
+use Rattle.std.specs.List.{filter, flat_map}
 use Rattle.lists.proofs.Tests.{decide, choose, ltb_reads, beq_reads}
 use Rattle.lists.proofs.Lists.{keep_in, in_keep, gather_in, in_gather}
 use Rattle.lists.proofs.Order.{rows_keep, rows_all}
@@ -26,7 +27,7 @@ use Rattle.sheet.proofs.Numbers.{number_in, in_number, number_append, number_par
 
 -- the ends of one side
 side_ends : Side → List Wire → List Point
-side_ends s ws = gather (λ w. tip s w ∷ []) ws
+side_ends s ws = flat_map (λ w. tip s w ∷ []) ws
 
 side_in : (s : Side) (p : Point) (ws : List Wire) → 0 < number p (side_ends s ws) → (w : Wire) × w ∈ ws × Ends s p w
 unfolding side_ends
@@ -40,7 +41,7 @@ no_pos : (n : ℕ) → (0 < n → ⊥) → n ≡ 0
 no_pos n f = ⊎_elim (λ (l : 0 < n). absurd (f l)) (λ (g : 0 < n → ⊥). omega arith) (decide (ltb_reads 0 n))
 
 at_most_one : (s : Side) (p : Point) {ws : List Wire} → Rows (λ a b. Ends s p a → Ends s p b → ⊥) ws → number p (side_ends s ws) ≤ 1
-unfolding side_ends gather number
+unfolding side_ends number
 at_most_one s p none = omega arith
 at_most_one s p (more {x = w} {xs = ws} h r) = let ih = at_most_one s p r in choose (same_reads p (tip s w)) (λ n. n ≤ 1) {x = suc (number p (side_ends s ws))} {y = number p (side_ends s ws)}
     (λ e. omega (arith, no_pos (number p (side_ends s ws)) (λ l. let k = side_in s p ws l in h k.0 k.1 (is_ends s e) k.2)))
@@ -48,7 +49,7 @@ at_most_one s p (more {x = w} {xs = ws} h r) = let ih = at_most_one s p r in cho
 
 -- a wire has two ends
 number_ends : (p : Point) (ws : List Wire) → number p (ends ws) ≡ number p (side_ends low ws) + number p (side_ends high ws)
-unfolding ends side_ends gather number
+unfolding ends side_ends number
 number_ends p [] = refl
 number_ends p (w ∷ ws) = step (same p (tip low w)) (same p (tip high w)) (number p (side_ends low ws)) (number p (side_ends high ws)) (number_ends p ws)
   where
@@ -72,12 +73,12 @@ beq_not false false = refl
 -- the ends of both directions
 number_both : (d : Bool) (p : Point) (ws : List Wire) → number p (ends ws) ≡ ends_at d ws p + ends_at (not d) ws p
 unfolding ends_at ends
-number_both d p ws = number_parts (λ w. beq w.vertical d) tips p ws ∙ ap (λ (f : Wire → Bool). ends_at d ws p + number p (ends (keep f ws))) (λ i w. beq_not w.vertical d i)
+number_both d p ws = number_parts (λ w. beq w.vertical d) tips p ws ∙ ap (λ (f : Wire → Bool). ends_at d ws p + number p (ends (filter f ws))) (λ i w. beq_not w.vertical d i)
 
 module _ {ws : List Wire} (ps : List Point) (fits : AllFit ws) (r : Rule2 ws) where
   -- the wires of one direction
   abbrev of : Bool → List Wire
-  of d = keep (λ w. beq w.vertical d) ws
+  of d = filter (λ w. beq w.vertical d) ws
 
   of_in : (d : Bool) {w : Wire} → w ∈ of d → w ∈ ws × (w.vertical ≡ d)
   of_in d m = keep_in (λ w. beq_reads w.vertical d) ws m

@@ -12,7 +12,8 @@ use mathlib.Core.Path.{◌≡◌, refl, sym, subst, ◌∙◌}
 use mathlib.Core.Logic.{⊎_elim, ◌⊎◌, inl, inr}
 use native.Mathlib.Omega.{arith}
 use lib.ListN.{length}
-use Rattle.lists.specs.Lists.{◌∈◌, keep, gather, Rows, none, more}
+use Rattle.lists.specs.Lists.{◌∈◌, Rows, none, more}
+use Rattle.std.specs.List.{filter, flat_map}
 use Rattle.lists.proofs.Lists.{gather_in, in_gather}
 use Rattle.lists.proofs.Appends.{gather_append}
 use Rattle.symbol.specs.declared.Point.{Point}
@@ -34,7 +35,7 @@ unfolding split_at
 split_to p m n = in_gather (split_one p) m n
 
 split_none : (p : Point) (ws : List Wire) → ((w : Wire) → w ∈ ws → Inside p w → ⊥) → split_at p ws ≡ ws
-unfolding split_at gather
+unfolding split_at
 split_none p [] f = refl
 split_none p (w ∷ ws) f = rw (one_none p (f w (∈-head refl)), split_none p ws (λ v m. f v (∈-tail m)))
 
@@ -44,7 +45,7 @@ rows_append none f o = o
 rows_append {ys = ys} (more {x} {xs} h s) f o = more (λ u m. ⊎_elim (h u) (λ (k : u ∈ ys). f x u (∈-head refl) k) (∈-append xs m)) (rows_append s (λ u w m n. f u w (∈-tail m) n) o)
 
 split_order : (p : Point) {ws : List Wire} → Rows Before ws → Rows Before (split_at p ws)
-unfolding split_at gather
+unfolding split_at
 split_order p none = none
 split_order p (more {x = w} {xs = ws} h s) = rows_append (one p w).order
     (λ v u m n. let t = gather_in (split_one p) ws n in within_before ((one p w).from v m).within ((one p t.0).from u t.2).within (h t.0 t.1))
@@ -128,13 +129,13 @@ cut_end qs {ws} {q = q} m o n = let t = all_cover qs m o in
 
 -- ---- a split makes as many more wires as have the point inside
 
-pub length_split : (p : Point) (ws : List Wire) → length (split_at p ws) ≡ length ws + length (keep (inside p) ws)
-unfolding split_at split_one gather keep
+pub length_split : (p : Point) (ws : List Wire) → length (split_at p ws) ≡ length ws + length (filter (inside p) ws)
+unfolding split_at split_one
 length_split p [] = refl
 length_split p (w ∷ ws) = step (inside p w) (length_split p ws)
   where
-    step : (b : Bool) → length (gather (split_one p) ws) ≡ length ws + length (keep (inside p) ws)
-        → length (cond b (left p w ∷ right p w ∷ []) (w ∷ []) ++ gather (split_one p) ws) ≡ suc (length ws) + length (cond b (w ∷ keep (inside p) ws) (keep (inside p) ws))
+    step : (b : Bool) → length (flat_map (split_one p) ws) ≡ length ws + length (filter (inside p) ws)
+        → length (cond b (left p w ∷ right p w ∷ []) (w ∷ []) ++ flat_map (split_one p) ws) ≡ suc (length ws) + length (cond b (w ∷ filter (inside p) ws) (filter (inside p) ws))
     step true e = omega arith
     step false e = omega arith
 

@@ -10,7 +10,8 @@ use mathlib.Core.Logic.{⊎_elim, ◌⊎◌, inl, inr}
 use native.Mathlib.Omega.{arith}
 use lib.Dec.{T}
 use lib.ListN.{length, length-map}
-use Rattle.lists.specs.Lists.{◌∈◌, keep, Rows}
+use Rattle.lists.specs.Lists.{◌∈◌, Rows}
+use Rattle.std.specs.List.{filter}
 use Rattle.lists.proofs.Tests.{test, decide, holds, choose, not_reads, and_reads, eqb_reads}
 use Rattle.lists.proofs.Lists.{keep_in, in_keep, keep_none, keep_old}
 use Rattle.lists.proofs.Appends.{length_parts}
@@ -35,27 +36,27 @@ use Rattle.sheet.proofs.Placing.{place_all_good, place_all_count, lost_at_most, 
 module _ (g : Component → Bool) (alter : Component → Component) (s : Sheet) where
   pub turn_lost : (turn g alter s).lost ≤ (turn g alter s).hit
   unfolding turn
-  turn_lost = omega (arith, lost_at_most (map alter (keep g s.parts)) (remove (λ w. false) g s), length-map (keep g s.parts) alter)
+  turn_lost = omega (arith, lost_at_most (map alter (filter g s.parts)) (remove (λ w. false) g s), length-map (filter g s.parts) alter)
 
   -- as many components as before, but for the lost ones
   pub turn_count : length (turn g alter s).sheet.parts + (turn g alter s).lost ≡ length s.parts
   unfolding turn remove
-  turn_count = omega (arith, place_all_count (map alter (keep g s.parts)) (remove (λ w. false) g s), length-map (keep g s.parts) alter, length_parts g s.parts)
+  turn_count = omega (arith, place_all_count (map alter (filter g s.parts)) (remove (λ w. false) g s), length-map (filter g s.parts) alter, length_parts g s.parts)
 
   -- what stands afterwards
-  turn_in : {z : Component} → z ∈ (turn g alter s).sheet.parts → (z ∈ map alter (keep g s.parts)) ⊎ (z ∈ keep (λ c. not (g c)) s.parts)
+  turn_in : {z : Component} → z ∈ (turn g alter s).sheet.parts → (z ∈ map alter (filter g s.parts)) ⊎ (z ∈ filter (λ c. not (g c)) s.parts)
   unfolding turn remove
-  turn_in m = place_all_in (map alter (keep g s.parts)) (remove (λ w. false) g s) m
+  turn_in m = place_all_in (map alter (filter g s.parts)) (remove (λ w. false) g s) m
 
-  in_turn : (turn g alter s).lost ≡ 0 → {z : Component} → (z ∈ map alter (keep g s.parts)) ⊎ (z ∈ keep (λ c. not (g c)) s.parts) → z ∈ (turn g alter s).sheet.parts
+  in_turn : (turn g alter s).lost ≡ 0 → {z : Component} → (z ∈ map alter (filter g s.parts)) ⊎ (z ∈ filter (λ c. not (g c)) s.parts) → z ∈ (turn g alter s).sheet.parts
   unfolding turn remove
-  in_turn e m = in_place_all (map alter (keep g s.parts)) (remove (λ w. false) g s) e m
+  in_turn e m = in_place_all (map alter (filter g s.parts)) (remove (λ w. false) g s) e m
 
   module _ (good : Good s) where
     pub turn_good : ((c : Component) → PartFits c → PartFits (alter c)) → Good (turn g alter s).sheet
     unfolding turn
-    turn_good fits = place_all_good (map alter (keep g s.parts)) (remove (λ w. false) g s)
-        (λ c m. let k = ∈-map alter (keep g s.parts) m in subst PartFits k.2 (fits k.0 (good.fits k.0 (keep_old g s.parts k.1))))
+    turn_good fits = place_all_good (map alter (filter g s.parts)) (remove (λ w. false) g s)
+        (λ c m. let k = ∈-map alter (filter g s.parts) m in subst PartFits k.2 (fits k.0 (good.fits k.0 (keep_old g s.parts k.1))))
         (remove_good (λ w. false) g s good)
 
     pub turn_nothing : ((c : Component) → c ∈ s.parts → T (g c) → ⊥) → turn g alter s ≡ record { sheet = s; hit = 0; lost = 0 }
@@ -63,7 +64,7 @@ module _ (g : Component → Bool) (alter : Component → Component) (s : Sheet) 
     turn_nothing q = ap₂ {C = Outcome} (λ cs e. let o = place_all (map alter cs) e in record { sheet = o.sheet; hit = length cs; lost = o.lost }) (keep_none (λ c. test (g c)) s.parts q) (remove_nothing (λ w. false) g s good (λ w m t. t) q)
 
     -- the components are placed again by rising position, if altering one does not move it
-    pub turn_rising : ((c : Component) → position (alter c) ≡ position c) → Rows (λ b c. Rise (position b) (position c)) (map alter (keep g s.parts))
+    pub turn_rising : ((c : Component) → position (alter c) ≡ position c) → Rows (λ b c. Rise (position b) (position c)) (map alter (filter g s.parts))
     turn_rising e = rows_map {R = λ b c. Rise (position b) (position c)} alter (rows_all (rows_keep g good.order) (λ b c m n r. subst₂ Rise (sym (e b)) (sym (e c)) r))
 
     -- if the altered ones keep their boxes, none is lost
@@ -72,7 +73,7 @@ module _ (g : Component → Bool) (alter : Component → Component) (s : Sheet) 
     turn_safe same = place_all_safe (remove (λ w. false) g s)
         (rows_map {R = Clear} alter (rows_all (rows_keep g good.apart) (λ b c m n f t. f (subst₂ Shares (kept m) (kept n) t))))
         (λ b c m n u.
-        let k = ∈-map alter (keep g s.parts) n in
+        let k = ∈-map alter (filter g s.parts) n in
         let i = keep_in (λ x. not_reads (test (g x))) s.parts m in
         let j = keep_in (λ x. test (g x)) s.parts k.1 in
         let t : Shares (box k.0) (box b) = subst (λ x. Shares x (box b)) (kept k.1) (subst (λ x. Shares (box x) (box b)) (sym k.2) u) in
@@ -81,7 +82,7 @@ module _ (g : Component → Bool) (alter : Component → Component) (s : Sheet) 
         (⊎_elim (λ (f : Clear b k.0). f (shares_mirror t)) (λ (f : Clear k.0 b). f t))
         (rows_two good.apart i.0 j.0))
       where
-        kept : {c : Component} → c ∈ keep g s.parts → box (alter c) ≡ box c
+        kept : {c : Component} → c ∈ filter g s.parts → box (alter c) ≡ box c
         kept {c} m = let j = keep_in (λ x. test (g x)) s.parts m in same c j.0 j.1
 
     -- and each row stays where it is, those that are hit altered
@@ -89,11 +90,11 @@ module _ (g : Component → Bool) (alter : Component → Component) (s : Sheet) 
     turn_parts fits at same = rows_ext (λ b c. rise_asym) (turn_good fits).order
         (rows_map {R = λ b c. Rise (position b) (position c)} altered (rows_all good.order (λ b c m n r. subst₂ Rise (sym (still b)) (sym (still c)) r)))
         (λ z m. ⊎_elim
-        (λ (i : z ∈ map alter (keep g s.parts)).
-        let k = ∈-map alter (keep g s.parts) i in
+        (λ (i : z ∈ map alter (filter g s.parts)).
+        let k = ∈-map alter (filter g s.parts) i in
         let j = keep_in (λ x. test (g x)) s.parts k.1 in
         ∈-cast (sym (hit k.0 j.1 ∙ k.2)) (map-∈ altered j.0))
-        (λ (i : z ∈ keep (λ c. not (g c)) s.parts). let j = keep_in (λ x. not_reads (test (g x))) s.parts i in ∈-cast (sym (missed z j.1)) (map-∈ altered j.0))
+        (λ (i : z ∈ filter (λ c. not (g c)) s.parts). let j = keep_in (λ x. not_reads (test (g x))) s.parts i in ∈-cast (sym (missed z j.1)) (map-∈ altered j.0))
         (turn_in m))
         (λ z m. let k = ∈-map altered s.parts m in in_turn (turn_safe same) (⊎_elim
         (λ (t : T (g k.0)). inl (∈-cast (sym k.2 ∙ hit k.0 t) (map-∈ alter (in_keep (λ x. test (g x)) k.1 t))))

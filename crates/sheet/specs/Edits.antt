@@ -1,6 +1,7 @@
 -- The edits of a sheet, as document 01 has them under "Edits".
 use Rattle.std.specs.Prelude.{ℕ, zero, suc, Bool, false, ◌&&◌, cond, not, List, [], ◌∷◌, map, length}
-use Rattle.lists.specs.Lists.{any, keep, insert}
+use Rattle.lists.specs.Lists.{insert}
+use Rattle.std.specs.List.{list_any, filter}
 use Rattle.symbol.specs.declared.Point.{Point}
 use Rattle.symbol.specs.Symbols.{touches_of}
 use Rattle.sheet.specs.declared.Wire.{Wire}
@@ -25,8 +26,8 @@ place_one c s = record { wires = split_all (pads c) s.wires; parts = insert ahea
 -- left that go on in line, it always holds (proofs/MergeCount: fell).
 unfoldable pub remove : (Wire → Bool) → (Component → Bool) → Sheet → Sheet
 remove f g s =
-    let ws = keep (λ w. not (f w)) s.wires in
-    let cs = keep (λ c. not (g c)) s.parts in
+    let ws = filter (λ w. not (f w)) s.wires in
+    let cs = filter (λ c. not (g c)) s.parts in
     record { wires = merge ws (pads_of cs); parts = cs }
 
 -- the square of half-width size about the pointer meets the wire's line
@@ -61,13 +62,13 @@ gone o = record { sheet = o.sheet; lost = suc o.lost }
 -- each is placed in turn; "one that would touch a component is lost"
 unfoldable pub place_all : List Component → Sheet → Placed
 place_all [] s = record { sheet = s; lost = zero }
-place_all (c ∷ cs) s = cond (any (touches c) s.parts) (gone (place_all cs s)) (place_all cs (place_one c s))
+place_all (c ∷ cs) s = cond (list_any (touches c) s.parts) (gone (place_all cs s)) (place_all cs (place_one c s))
 
 -- "Take out every contact that the square meets, merge as in delete, then place each again, altered, by rising (y, x) of position."
 unfoldable pub turn : (Component → Bool) → (Component → Component) → Sheet → Outcome
 turn g alter s =
-    let o = place_all (map alter (keep g s.parts)) (remove (λ w. false) g s) in
-    record { sheet = o.sheet; hit = length (keep g s.parts); lost = o.lost }
+    let o = place_all (map alter (filter g s.parts)) (remove (λ w. false) g s) in
+    record { sheet = o.sheet; hit = length (filter g s.parts); lost = o.lost }
 
 -- a contact that the square meets
 unfoldable pub hits : Point → ℕ → Component → Bool

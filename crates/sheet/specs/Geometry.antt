@@ -4,7 +4,7 @@ use Rattle.std.specs.Prelude.{ℕ, ◌≤◌, ◌<◌, Bool, true, false, ◌&&�
 use Rattle.std.specs.Bool.{beq}
 use Rattle.sheet.specs.declared.Wire.{Wire}
 use Rattle.symbol.specs.declared.Point.{Point}
-use Rattle.lists.specs.Lists.{gather}
+use Rattle.std.specs.List.{flat_map}
 
 -- a point's place along a direction
 abbrev pub along : Bool → Point → ℕ
@@ -40,7 +40,7 @@ tips w = tip low w ∷ tip high w ∷ []
 
 -- all wire ends
 unfoldable pub ends : List Wire → List Point
-ends ws = gather tips ws
+ends ws = flat_map tips ws
 
 -- all wire ends and pads
 abbrev pub marks : List Wire → List Point → List Point

@@ -4,14 +4,14 @@ use Rattle.std.specs.Prelude.{Bool, ◌&&◌, ◌||◌, cond, not, List, [], ◌
 use Rattle.std.specs.Bool.{beq}
 use Rattle.sheet.specs.declared.Wire.{Wire}
 use Rattle.symbol.specs.declared.Point.{Point}
-use Rattle.lists.specs.Lists.{any}
+use Rattle.std.specs.List.{list_any}
 use Rattle.sheet.specs.Points.{same}
 use Rattle.sheet.specs.Geometry.{tip, low, high}
 
 -- the test for `HeldApart`: the point has more than "exactly two wire ends in line, without a pad", namely an end of the other direction
 -- or a pad
 unfoldable pub held_apart : List Wire → List Point → Bool → Point → Bool
-held_apart ws ps d p = any (λ w. beq w.vertical (not d) && (same p (tip low w) || same p (tip high w))) ws || any (same p) ps
+held_apart ws ps d p = list_any (λ w. beq w.vertical (not d) && (same p (tip low w) || same p (tip high w))) ws || list_any (same p) ps
 
 -- "two wire ends in line": b goes on in line where a ends, and h does not hold them apart; "A corner does not"
 unfoldable pub joins : (Bool → Point → Bool) → Wire → Wire → Bool

@@ -1,6 +1,6 @@
 -- Components: a symbol, turned and moved to its position.
 use Rattle.std.specs.Prelude.{ℕ, ◌≤◌, ◌<◌, Bool, List, T}
-use Rattle.lists.specs.Lists.{gather}
+use Rattle.std.specs.List.{flat_map}
 use Rattle.orientation.specs.Orientations.{eighth, turn_by, rights, mirrors, can_turn}
 use Rattle.label.specs.Labels.{label_ok}
 use Rattle.symbol.specs.declared.Point.{Point}
@@ -23,7 +23,7 @@ pads c = pad_points c.kind (eighth c.orientation) c.x c.y
 
 -- the pads of all components
 abbrev pub pads_of : List Component → List Point
-pads_of cs = gather pads cs
+pads_of cs = flat_map pads cs
 
 -- the two boxes share a point, edges counted
 unfoldable pub touches : Component → Component → Bool

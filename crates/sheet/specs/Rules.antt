@@ -1,7 +1,8 @@
 -- A drawing is lawful: the seven rules, in document 01's wording and order. They speak of rows in any order, but for rule 7.
 use Rattle.std.specs.Prelude.{ℕ, ◌≤◌, ◌<◌, Bool, false, true, not, List, ◌≡◌, ◌≢◌, drop}
 use Rattle.std.specs.Bool.{beq}
-use Rattle.lists.specs.Lists.{◌∈◌, Rows, keep}
+use Rattle.lists.specs.Lists.{◌∈◌, Rows}
+use Rattle.std.specs.List.{filter}
 use Rattle.symbol.specs.declared.Point.{Point}
 use Rattle.sheet.specs.declared.Wire.{Wire}
 use Rattle.sheet.specs.declared.Component.{Component}
@@ -30,7 +31,7 @@ pub data Upward (a b : Wire) : Type 0 where
 
 -- the ends at p of the wires of direction d
 unfoldable pub ends_at : Bool → List Wire → Point → ℕ
-ends_at d ws p = number p (ends (keep (λ w. beq w.vertical d) ws))
+ends_at d ws p = number p (ends (filter (λ w. beq w.vertical d) ws))
 
 -- the rows from n on are all z
 abbrev pub Blank : {A : Type 0} → A → ℕ → List A → Type 0

@@ -2,13 +2,14 @@
 use Rattle.std.specs.Prelude.{min, max, cond, not, List, [], ◌∷◌, eqb}
 use Rattle.sheet.specs.declared.Wire.{Wire}
 use Rattle.symbol.specs.declared.Point.{Point}
-use Rattle.lists.specs.Lists.{keep, insert}
+use Rattle.lists.specs.Lists.{insert}
+use Rattle.std.specs.List.{filter}
 use Rattle.sheet.specs.Geometry.{tips, marks, on, meets, first}
 use Rattle.sheet.specs.Split.{split_all}
 
 -- "Remove each wire of the same direction that meets the new one, an end touch included": what is left
 unfoldable pub kept : Wire → List Wire → List Wire
-kept n ws = keep (λ w. not (meets n w)) ws
+kept n ws = filter (λ w. not (meets n w)) ws
 
 -- r, reaching to the outermost ends of w too
 abbrev pub stretch : Wire → Wire → Wire
@@ -25,7 +26,7 @@ rest n ws = split_all (tips n) (kept n ws)
 
 -- "each joint still standing from one end as drawn to the other, both included"
 unfoldable pub standing : Wire → List Wire → List Point → List Point
-standing n ws ps = keep (λ p. on p n) (marks ws ps)
+standing n ws ps = filter (λ p. on p n) (marks ws ps)
 
 -- "Cut the run at each joint still standing ..": the run r goes in among the rest ws, and all are split at those joints. Cutting the run
 -- alone gives the same on lawful drawings (proofs/Run: pieces-laid). "A crossing elsewhere stays unjoined."

@@ -2,7 +2,7 @@
 use Rattle.std.specs.Prelude.{ℕ, cond, List, [], ◌∷◌}
 use Rattle.sheet.specs.declared.Wire.{Wire}
 use Rattle.symbol.specs.declared.Point.{Point}
-use Rattle.lists.specs.Lists.{gather}
+use Rattle.std.specs.List.{flat_map}
 use Rattle.sheet.specs.Geometry.{along, inside}
 
 -- the part of a wire up to a place along it
@@ -27,7 +27,7 @@ split_one p w = cond (inside p w) (left p w ∷ right p w ∷ []) (w ∷ [])
 
 -- "Each pad splits each wire that it lies strictly inside"; an end as drawn splits "each crossing wire that has that end strictly inside"
 unfoldable pub split_at : Point → List Wire → List Wire
-split_at p ws = gather (split_one p) ws
+split_at p ws = flat_map (split_one p) ws
 
 -- "Each pad splits", "At the two ends as drawn, split", "Cut the run at each joint": the points one after the other
 unfoldable pub split_all : List Point → List Wire → List Wire

@@ -5,7 +5,7 @@ use native.Mathlib.Omega.{arith}
 use mathlib.Core.Bool.{Bool, ◌&&◌}
 use lib.Dec.{T, leb}
 use lib.IntN.{pos, negsuc}
-use Rattle.lists.specs.Lists.{all}
+use Rattle.std.specs.List.{list_all}
 use Rattle.lists.proofs.Tests.{Reads, reads_as, and_reads, test, holds, passes, same_test, leb_reads}
 use Rattle.orientation.specs.Orientations.{eighth, turn_by, mirrors}
 use Rattle.orientation.proofs.Eight.{below_8, test_8}
@@ -85,7 +85,7 @@ corners_astride : ℕ → ℕ → Bool
 corners_astride k n = astride (low k n).dx (high k n).dx && astride (low k n).dy (high k n).dy
 
 all_astride : (k n : ℕ) → n < 8 → T (corners_astride k n)
-unfolding corners_astride all
+unfolding corners_astride
 all_astride zero = test_8 (corners_astride 0) tt
 all_astride (suc zero) = test_8 (corners_astride 1) tt
 all_astride (suc (suc k)) = test_8 (corners_astride 2) tt

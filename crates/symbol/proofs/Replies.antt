@@ -6,7 +6,7 @@ use mathlib.Core.Path.{◌≡◌, refl, sym, subst, ◌∙◌}
 use lib.Dec.{leb, eqb}
 use lib.IntN.{ℤ, pos, negsuc}
 use lib.Signed.{le_z}
-use Rattle.lists.specs.Lists.{all}
+use Rattle.std.specs.List.{list_all}
 use Rattle.edge.specs.Coordinates.{ranged, size_is, no_size, size_of}
 use Rattle.label.specs.declared.Label.{Label}
 use Rattle.label.specs.Labels.{graphic, given, judged, held_label}
@@ -26,7 +26,7 @@ size_reply (pos n) = go (leb n 1000)
 
 label_reply : (l : Label) → (held_label l).reply ≡ unless (eqb (held_label l).reply 0) 5
 unfolding held_label
-label_reply l = go (leb l.length 16 && all graphic (given l))
+label_reply l = go (leb l.length 16 && list_all graphic (given l))
   where
     go : (b : Bool) → (judged b (given l)).reply ≡ unless (eqb (judged b (given l)).reply 0) 5
     go true = refl

@@ -5,23 +5,21 @@ use Prim.Native.Nat.{ℕ, ◌+◌, ◌≤◌, ◌<◌}
 use native.Mathlib.Omega.{arith}
 use lib.ListN.{length, get_or, take, drop, length-append}
 use lib.Seq.{sets}
-use Rattle.lists.specs.Lists.{gather}
+use Rattle.std.specs.List.{flat_map}
 use Rattle.lists.proofs.Walks.{rows_from_lem, rows_past}
 use Rattle.text.specs.Text.{Put}
 use Rattle.text.proofs.Puts.{Todo, todo_step, todo_done}
 
 -- the bytes of the rows from i on, of n
 abbrev pub left : {A : Type 0} → (A → List ℕ) → List A → ℕ → ℕ → List ℕ
-left g l n i = gather g (drop i (take n l))
+left g l n i = flat_map g (drop i (take n l))
 
 module _ {A : Type 0} (g : A → List ℕ) (l : List A) (n i : ℕ) (few : n ≤ length l) where
   left_next : (d : A) → i < n → left g l n i ≡ g (get_or l i d) ++ left g l n (i + 1)
-  unfolding gather
-  left_next d h = ap (gather g) (rows_from_lem l n i d h few)
+  left_next d h = ap (flat_map g) (rows_from_lem l n i d h few)
 
   left_end : n ≤ i → left g l n i ≡ []
-  unfolding gather
-  left_end h = ap (gather g) (rows_past l n i h few)
+  left_end h = ap (flat_map g) (rows_past l n i h few)
 
   pub left_room : (d : A) → i < n → length (g (get_or l i d)) ≤ length (left g l n i)
   left_room d h = omega (arith, ap length (left_next d h), length-append (g (get_or l i d)) (left g l n (i + 1)))

@@ -1,6 +1,6 @@
 // Wires that the square about the pointer does not meet.
 ghost use Rattle.std.specs.Prelude.{◌≡◌, not, ◌≤◌, ◌-◌};
-ghost use Rattle.lists.specs.Lists.{keep};
+ghost use Rattle.std.specs.List.{filter};
 ghost use Rattle.symbol.specs.Symbols.{touches_of};
 ghost use Rattle.sheet.specs.Boxes;
 ghost use Rattle.sheet.specs.Edits.{meets_wire};
@@ -48,7 +48,7 @@ fn hits(b: Bounds, w: Wire) -> bool
 // The wires whose line the box does not meet, in order.
 fn keep_clear(ws: Wires, b: Bounds) -> Wires
     requires { ws.count ≤ 512 }
-    ensures { Tabled (keep (λ w. not (touches_of b (Boxes.line w))) (wire_rows ws)) result }
+    ensures { Tabled (filter (λ w. not (touches_of b (Boxes.line w))) (wire_rows ws)) result }
 {
     let n = ws.count;
     let mut out = no_wires();
@@ -68,7 +68,7 @@ fn keep_clear(ws: Wires, b: Bounds) -> Wires
 // The wires whose line the square of half-width size about the pointer does not meet, in order.
 pub fn keep_unhit(ws: Wires, p: Point, size: u16) -> Wires
     requires { (ws.count ≤ 512) × ((p.x ≤ 12000) × ((p.y ≤ 12000) × (size ≤ 1000))) }
-    ensures { Tabled (keep (λ w. not (meets_wire p size w)) (wire_rows ws)) result }
+    ensures { Tabled (filter (λ w. not (meets_wire p size w)) (wire_rows ws)) result }
 {
     let b = square(p, size);
     keep_clear(ws, b)

@@ -5,7 +5,7 @@ use borrow.Author.Rules.{rules}
 use lib.ListN.{length, take, drop}
 use mathlib.Core.Path.{◌≡◌, refl, sym, ◌∙◌}
 use native.Mathlib.Omega.{arith}
-use Rattle.lists.specs.Lists.{all}
+use Rattle.std.specs.List.{list_all}
 use Rattle.label.specs.Labels.{graphic, padded}
 use Rattle.label.proofs.Filling.{filled, test_next, test_end, too_long, another_byte, accepted}
 use Rattle.label.proofs.held_label.Goals as goal
@@ -22,7 +22,7 @@ loop-i-preserved c =
       omega arith,
       l.loop-i.invariant.1,
       filled 16 g.bytes l.loop-i.i l.loop-i.invariant.2,
-      l.loop-i.invariant.3 ∙ test_next g.bytes g.length k l.loop-i.i c.loop-i-test.true ∙ (λ j. (sym c.is_graphic.ensures ∙ c.if-is_graphic.true) j && all graphic (drop (l.loop-i.i + 1) (take g.length g.bytes))),
+      l.loop-i.invariant.3 ∙ test_next g.bytes g.length k l.loop-i.i c.loop-i-test.true ∙ (λ j. (sym c.is_graphic.ensures ∙ c.if-is_graphic.true) j && list_all graphic (drop (l.loop-i.i + 1) (take g.length g.bytes))),
     )
 
 pub returns-else-is_graphic : goal.returns-else-is_graphic
@@ -32,7 +32,7 @@ returns-else-is_graphic c =
     let g = l.before.before.before.args.l in
     let k : g.length ≤ length g.bytes = omega arith in
     another_byte g (omega arith)
-    (l.loop-i.invariant.3 ∙ test_next g.bytes g.length k l.loop-i.i c.loop-i-test.true ∙ (λ j. (sym c.is_graphic.ensures ∙ c.if-is_graphic.false) j && all graphic (drop (l.loop-i.i + 1) (take g.length g.bytes))))
+    (l.loop-i.invariant.3 ∙ test_next g.bytes g.length k l.loop-i.i c.loop-i-test.true ∙ (λ j. (sym c.is_graphic.ensures ∙ c.if-is_graphic.false) j && list_all graphic (drop (l.loop-i.i + 1) (take g.length g.bytes))))
 
 pub returns : goal.returns
 returns c =
@@ -41,5 +41,5 @@ returns c =
     let k : g.length ≤ length g.bytes = omega arith in
     let e : l.loop-i.i ≡ g.length = omega arith in
     accepted g (omega arith)
-    (l.loop-i.invariant.3 ∙ (λ j. all graphic (drop (e j) (take g.length g.bytes))) ∙ test_end g.bytes g.length k)
+    (l.loop-i.invariant.3 ∙ (λ j. list_all graphic (drop (e j) (take g.length g.bytes))) ∙ test_end g.bytes g.length k)
     (l.loop-i.invariant.2 ∙ (λ j. padded 16 (take (e j) g.bytes)))

@@ -1,7 +1,7 @@
 -- A pass: after i pads those of them that lie on n are marked too.
 use mathlib.Core.Path.{refl, ap, ◌∙◌}
 use mathlib.Core.List.{[], ◌∷◌}
-use Rattle.lists.specs.Lists.{keep}
+use Rattle.std.specs.List.{filter}
 use Rattle.lists.proofs.Tables.{long}
 use Rattle.lists.proofs.Passes.{pass_start, pass_next, pass_end, gather_keep, gather_each}
 use Rattle.sheet.specs.Geometry.{on}
@@ -20,4 +20,4 @@ loop-i-preserved c = let s = c.loop-i.invariant.2 in
     (omega arith, omega arith, pass_next _ s refl (more_then s.so_far c.mark.ensures) (omega arith))
 
 pub returns : goal.returns
-returns c = more_as (gather_keep (λ p. on p c.args.n) (λ p. p ∷ []) _ ∙ ap (keep (λ p. on p c.args.n)) (gather_each _)) (pass_end c.args.pads.count c.loop-i.invariant.2 (omega arith))
+returns c = more_as (gather_keep (λ p. on p c.args.n) (λ p. p ∷ []) _ ∙ ap (filter (λ p. on p c.args.n)) (gather_each _)) (pass_end c.args.pads.count c.loop-i.invariant.2 (omega arith))
