@@ -10,7 +10,7 @@ use Rattle.std.specs.List.{flat_map}
 use Rattle.lists.proofs.Tables.{holds_as, holds_push}
 use Rattle.lists.proofs.Walks.{Rest, rest_at, rest_next, rest_end, rows_from_lem}
 use Rattle.sheet.specs.declared.Wire.{Wire}
-use Rattle.sheet.specs.declared.Wires.{Wires}
+use Rattle.sheet.specs.Tables.{Wires}
 use Rattle.wires.specs.declared.Grown.{Grown}
 use Rattle.wires.specs.Tables.{Tabled, Grows}
 use Rattle.wires.proofs.Growing.{grows_room, when_room, still_full, grows_as}

@@ -14,9 +14,9 @@ use Rattle.std.specs.List.{filter}
 use Rattle.symbol.specs.declared.Point.{Point}
 use Rattle.sheet.specs.declared.Wire.{Wire}
 use Rattle.sheet.specs.declared.Component.{Component}
-use Rattle.sheet.specs.declared.Wires.{Wires}
-use Rattle.sheet.specs.declared.Components.{Components}
-use Rattle.sheet.specs.declared.Joints.{Joints}
+use Rattle.sheet.specs.Tables.{Wires}
+use Rattle.sheet.specs.Tables.{Components}
+use Rattle.sheet.specs.Tables.{Joints}
 use Rattle.sheet.specs.declared.Drawing.{Drawing}
 use Rattle.sheet.specs.Drawings.{lists_of, marks_of, wire_rows, component_rows, joints, joint_table}
 use Rattle.sheet.specs.Edits.{meets_wire, meets_part}

@@ -7,7 +7,7 @@ use lib.ListN.{length}
 use borrow.Author.Tests.{le-leb, lt-leb}
 use Rattle.lists.proofs.Tests.{Reads, pass, fail, choose, eqb_reads, leb_reads}
 use Rattle.symbol.specs.Replies.{or_else, unless, granted}
-use Rattle.sheet.specs.declared.Components.{Components}
+use Rattle.sheet.specs.Tables.{Components}
 use Rattle.sheet.specs.Drawings.{Sheet}
 use Rattle.sheet.proofs.Wiring.{Roomy}
 use Rattle.sheet.specs.Edits.{Outcome}

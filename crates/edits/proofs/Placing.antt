@@ -15,8 +15,8 @@ use Rattle.lists.proofs.Appends.{length_insert}
 use Rattle.lists.proofs.Tables.{holds_as, holds_list, holds_self, holds_count}
 use Rattle.lists.proofs.Walks.{Rest, rest_next, rest_end}
 use Rattle.sheet.specs.declared.Component.{Component}
-use Rattle.sheet.specs.declared.Wires.{Wires}
-use Rattle.sheet.specs.declared.Components.{Components}
+use Rattle.sheet.specs.Tables.{Wires}
+use Rattle.sheet.specs.Tables.{Components}
 use Rattle.sheet.specs.Parts.{PartFits, pads, touches, ahead}
 use Rattle.sheet.specs.Drawings.{Sheet, component_rows}
 use Rattle.sheet.specs.Edits.{Placed, place_one, place_all}

@@ -14,8 +14,8 @@ use Rattle.lists.proofs.Tables.{holds_as, holds_list, holds_self, holds_count}
 use Rattle.symbol.specs.declared.Point.{Point}
 use Rattle.sheet.specs.declared.Wire.{Wire}
 use Rattle.sheet.specs.declared.Component.{Component}
-use Rattle.sheet.specs.declared.Wires.{Wires}
-use Rattle.sheet.specs.declared.Components.{Components}
+use Rattle.sheet.specs.Tables.{Wires}
+use Rattle.sheet.specs.Tables.{Components}
 use Rattle.sheet.specs.Merge.{merge}
 use Rattle.sheet.specs.Run.{lay_wire}
 use Rattle.sheet.specs.Parts.{PartFits, pads, pads_of, ahead}

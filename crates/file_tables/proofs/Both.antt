@@ -5,8 +5,8 @@ use Prim.Native.Nat.{ℕ}
 use Rattle.lists.proofs.Tables.{holds_list, holds_as, holds_self}
 use Rattle.sheet.specs.declared.Wire.{Wire}
 use Rattle.sheet.specs.declared.Component.{Component}
-use Rattle.sheet.specs.declared.Wires.{Wires}
-use Rattle.sheet.specs.declared.Components.{Components}
+use Rattle.sheet.specs.Tables.{Wires}
+use Rattle.sheet.specs.Tables.{Components}
 use Rattle.sheet.specs.Drawings.{wire_rows}
 use Rattle.wires.specs.Tables.{Tabled}
 use Rattle.parts.specs.Tables.{TabledParts}

@@ -10,8 +10,8 @@ use Rattle.symbol.specs.declared.Bounds.{Bounds}
 use Rattle.symbol.specs.Symbols.{pad_points, bounds_at, touches_of}
 use Rattle.sheet.specs.declared.Wire.{Wire}
 use Rattle.sheet.specs.declared.Joint.{Joint}
-use Rattle.sheet.specs.declared.Wires.{Wires}
-use Rattle.sheet.specs.declared.Joints.{Joints}
+use Rattle.sheet.specs.Tables.{Wires}
+use Rattle.sheet.specs.Tables.{Joints}
 use Rattle.sheet.specs.declared.Tally.{Tally}
 use Rattle.sheet.specs.Points.{rises}
 use Rattle.sheet.specs.Geometry.{marks}

@@ -19,7 +19,7 @@ use Rattle.lists.proofs.Passes.{take_more}
 use Rattle.lists.proofs.Finding.{get_in, rows_at, table_index}
 use Rattle.symbol.specs.declared.Point.{Point}
 use Rattle.sheet.specs.declared.Joint.{Joint}
-use Rattle.sheet.specs.declared.Joints.{Joints}
+use Rattle.sheet.specs.Tables.{Joints}
 use Rattle.sheet.specs.Points.{Rise}
 use Rattle.sheet.specs.Joints.{joint_point, number, Rising}
 use Rattle.sheet.specs.Rules.{Rule6}

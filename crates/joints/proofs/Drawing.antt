@@ -7,9 +7,9 @@ use lib.ListN.{length}
 use lib.Seq.{length-take-le}
 use Rattle.lists.proofs.Appends.{length_gather}
 use Rattle.symbol.specs.declared.Point.{Point}
-use Rattle.sheet.specs.declared.Wires.{Wires}
-use Rattle.sheet.specs.declared.Components.{Components}
-use Rattle.sheet.specs.declared.Joints.{Joints}
+use Rattle.sheet.specs.Tables.{Wires}
+use Rattle.sheet.specs.Tables.{Components}
+use Rattle.sheet.specs.Tables.{Joints}
 use Rattle.sheet.specs.declared.Drawing.{Drawing}
 use Rattle.sheet.specs.declared.Tally.{Tally}
 use Rattle.sheet.specs.Geometry.{marks}

@@ -10,7 +10,7 @@ use Rattle.lists.specs.Tables.{Holds}
 use Rattle.lists.proofs.Tables.{holds_self, holds_list, holds_as, holds_push}
 use Rattle.lists.proofs.Walks.{rows_from_lem as rows-from-place, rows_past}
 use Rattle.sheet.specs.declared.Joint.{Joint}
-use Rattle.sheet.specs.declared.Joints.{Joints}
+use Rattle.sheet.specs.Tables.{Joints}
 use Rattle.sheet.specs.Drawings.{zero_joint, joint_rows, joint_table}
 use Rattle.sheet.specs.Joints.{joint_at, joints_of}
 use Rattle.joints.specs.Keys.{spot}

@@ -12,14 +12,14 @@ use Rattle.lists.proofs.Passes.{take_more}
 use Rattle.lists.proofs.Finding.{maps_at}
 use Rattle.symbol.specs.declared.Point.{Point}
 use Rattle.sheet.specs.declared.Wire.{Wire}
-use Rattle.sheet.specs.declared.Joints.{Joints}
+use Rattle.sheet.specs.Tables.{Joints}
 use Rattle.sheet.specs.Points.{same}
 use Rattle.sheet.specs.Geometry.{ends, marks}
 use Rattle.sheet.specs.Joints.{joint_point, number, joints_of}
 use Rattle.sheet.specs.Drawings.{zero_joint, joint_rows}
 use Rattle.sheet.proofs.JointRows.{length_ends, joints_same}
 use Rattle.sheet.proofs.Points.{point_path}
-use Rattle.joints.specs.declared.sort.Keys.{Keys}
+use Rattle.joints.specs.Table.{Keys}
 use Rattle.joints.specs.Sorting.{key_rows, Same}
 use Rattle.joints.specs.Keys.{spot, Keyed, KeysOf}
 

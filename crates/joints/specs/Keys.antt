@@ -1,10 +1,10 @@
 -- Below the calls: points as keys: y times 65,536 and x, so that keys rise as points do by (y, x).
 use Rattle.std.specs.Prelude.{ℕ, ◌/◌, ◌%◌, List, map, ◌≡◌, length, take}
 use Rattle.symbol.specs.declared.Point.{Point}
-use Rattle.sheet.specs.declared.Joints.{Joints}
+use Rattle.sheet.specs.Tables.{Joints}
 use Rattle.sheet.specs.Joints.{joint_point}
 use Rattle.sheet.specs.Drawings.{joint_rows}
-use Rattle.joints.specs.declared.sort.Keys.{Keys}
+use Rattle.joints.specs.Table.{Keys}
 use Rattle.joints.specs.Sorting.{key_rows}
 
 -- the point of a key

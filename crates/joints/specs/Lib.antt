@@ -1,3 +1,4 @@
+pub mod Table
 pub mod Sorting
 pub mod Keys
 pub mod Tables

@@ -1,7 +1,7 @@
 -- Below the calls: the tables of a drawing without its joints, and a drawing whose joints are those of its wires and components.
 use Rattle.std.specs.Prelude.{◌≤◌, ◌≡◌}
-use Rattle.sheet.specs.declared.Wires.{Wires}
-use Rattle.sheet.specs.declared.Components.{Components}
+use Rattle.sheet.specs.Tables.{Wires}
+use Rattle.sheet.specs.Tables.{Components}
 use Rattle.sheet.specs.declared.Drawing.{Drawing}
 use Rattle.sheet.specs.Drawings.{Sheet, joints, wire_rows, component_rows, lists_of, joint_table}
 use Rattle.wires.specs.Tables.{Tabled}

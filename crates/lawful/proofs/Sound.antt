@@ -8,9 +8,9 @@ use Rattle.lists.proofs.Tests.{holds, and_reads, true_reads}
 use Rattle.lists.proofs.Lists.{links_reads}
 use Rattle.symbol.specs.declared.Point.{Point}
 use Rattle.sheet.specs.declared.Wire.{Wire}
-use Rattle.sheet.specs.declared.Wires.{Wires}
+use Rattle.sheet.specs.Tables.{Wires}
 use Rattle.sheet.specs.declared.Joint.{Joint}
-use Rattle.sheet.specs.declared.Joints.{Joints}
+use Rattle.sheet.specs.Tables.{Joints}
 use Rattle.sheet.specs.declared.Drawing.{Drawing}
 use Rattle.sheet.specs.Geometry.{marks, Follows, Before, tip, high}
 use Rattle.sheet.specs.Points.{rises}
@@ -23,7 +23,7 @@ use Rattle.sheet.proofs.Points.{rises_reads, rise_chain}
 use Rattle.sheet.proofs.JointRows.{rules_6_7, joints_rising}
 use Rattle.sheet.proofs.RowOrder.{rules_2_7}
 use Rattle.sheet.proofs.Rules.{wired_rules}
-use Rattle.wires.specs.declared.Points.{Points}
+use Rattle.wires.specs.Points.{Points}
 use Rattle.wires.specs.Tables.{point_rows}
 use Rattle.limits.specs.Limits.{check1}
 use Rattle.limits.proofs.Decides.{sized_behind, reads1}

@@ -11,7 +11,7 @@ use Rattle.lists.proofs.Tests.{choose, eqb_reads}
 use Rattle.lists.proofs.Tables.{get_d_pad}
 use Rattle.lists.proofs.Walks.{rows_from_lem, rows_past}
 use Rattle.sheet.specs.declared.Component.{Component}
-use Rattle.sheet.specs.declared.Components.{Components}
+use Rattle.sheet.specs.Tables.{Components}
 use Rattle.sheet.specs.Drawings.{Sheet, component_rows}
 use Rattle.net_numbers.specs.Netted.{net_numbers}
 use Rattle.listing.specs.Listing.{relay, switch, Entry, entry, pads_in, entry_lines, lines_in, kind_lines, nth, list_with, list_of}

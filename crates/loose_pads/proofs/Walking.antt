@@ -10,7 +10,7 @@ use Rattle.std.specs.List.{filter, flat_map}
 use Rattle.lists.proofs.Walks.{rows_from_lem}
 use Rattle.symbol.specs.Symbols.{pads_at}
 use Rattle.sheet.specs.declared.Component.{Component}
-use Rattle.sheet.specs.declared.Components.{Components}
+use Rattle.sheet.specs.Tables.{Components}
 use Rattle.sheet.specs.Drawings.{component_rows}
 use Rattle.loose_pads.specs.Loose.{PadName, pad-v, names_of, pad_names, kinds_of}
 use Rattle.loose_pads.specs.Counting.{spare, loose_by, is_loose, numbers_from, loose_pads}

@@ -24,7 +24,7 @@ use Rattle.sheet.specs.Points.{same}
 use Rattle.sheet.specs.Geometry.{low, high, tip}
 use Rattle.sheet.specs.Merge.{held_apart}
 use Rattle.sheet.proofs.Points.{same_reads}
-use Rattle.merge.specs.declared.Numbers.{Numbers}
+use Rattle.merge.specs.Numbers.{Numbers}
 use Rattle.merge.specs.Codes.{Mark, kind_of, mark, end_marks, marks_with_kind, code_of, Codable, Coded, number_rows}
 
 -- ---- the table of numbers

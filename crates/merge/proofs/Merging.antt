@@ -12,7 +12,7 @@ use Rattle.lists.proofs.Tests.{both, holds, and_reads, beq_reads, eqb_reads}
 use Rattle.lists.proofs.Tables.{holds_push, holds_as}
 use Rattle.lists.proofs.Walks.{rows_from_lem, Rest, rest_next, rest_end}
 use Rattle.sheet.specs.declared.Wire.{Wire}
-use Rattle.sheet.specs.declared.Wires.{Wires}
+use Rattle.sheet.specs.Tables.{Wires}
 use Rattle.sheet.specs.Geometry.{high, tip, point}
 use Rattle.sheet.specs.Merge.{held_apart, joins, join, merge_by, merge}
 use Rattle.sheet.proofs.Merge.{merge_from, merge_forward}

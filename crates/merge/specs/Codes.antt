@@ -7,7 +7,7 @@ use Rattle.std.specs.List.{flat_map}
 use Rattle.sheet.specs.declared.Wire.{Wire}
 use Rattle.sheet.specs.Geometry.{low, high, tip}
 use Rattle.sheet.specs.Merge.{held_apart}
-use Rattle.merge.specs.declared.Numbers.{Numbers}
+use Rattle.merge.specs.Numbers.{Numbers}
 
 -- the end of a horizontal wire is a mark of kind 0, that of a vertical one of kind 1, a pad of kind 2
 pub record Mark : Type 0 where

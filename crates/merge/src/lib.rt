@@ -12,13 +12,10 @@ ghost use Rattle.merge.specs.Following.{goes_on};
 
 use sheet::{Wire, Wires};
 use wires::{Points, no_wires};
+use table::Table;
 
 // All wire ends and pads of a drawing, each as a number: twice 512 and three times 128 at most.
-#[derive(Clone, Copy)]
-pub struct Numbers {
-    pub rows: [u64; 1408],
-    pub count: usize,
-}
+pub type Numbers = Table<u64, 1408>;
 
 // b goes on in line where a ends.
 pub fn goes_on(a: Wire, b: Wire) -> bool

@@ -7,7 +7,7 @@ use Rattle.std.specs.List.{filter}
 use Rattle.lists.proofs.Lists.{keep_old}
 use Rattle.lists.proofs.Tables.{holds_list, holds_count}
 use Rattle.symbol.specs.declared.Point.{Point}
-use Rattle.sheet.specs.declared.Components.{Components}
+use Rattle.sheet.specs.Tables.{Components}
 use Rattle.sheet.specs.declared.Joint.{Joint}
 use Rattle.sheet.specs.declared.Drawing.{Drawing}
 use Rattle.sheet.specs.Geometry.{ends}
@@ -15,11 +15,11 @@ use Rattle.sheet.specs.Parts.{pads_of}
 use Rattle.sheet.specs.Drawings.{Sheet, marks_of, wire_rows, component_rows, joint_rows, lists_of}
 use Rattle.sheet.specs.Rules.{Lawful}
 use Rattle.sheet.proofs.Rules.{lawful_joints}
-use Rattle.wires.specs.declared.Points.{Points}
+use Rattle.wires.specs.Points.{Points}
 use Rattle.wires.specs.Tables.{point_rows}
 use Rattle.parts.specs.Tables.{PartsFit, TabledParts, TabledPoints}
-use Rattle.nets.specs.declared.Links.{Links}
-use Rattle.nets.specs.declared.Pads.{Pads}
+use Rattle.nets.specs.Joined.{Links}
+use Rattle.nets.specs.Joined.{Pads}
 use Rattle.nets.specs.Numbers.{by_number, numbers_of}
 use Rattle.nets.specs.Tables.{net_in, pad_rows}
 use Rattle.net_numbers.specs.Netted.{is_power, net_on, number_of_joint, net_numbers}

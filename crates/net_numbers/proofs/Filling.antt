@@ -8,11 +8,11 @@ use Rattle.lists.specs.Lists.{◌∈◌}
 use Rattle.symbol.specs.declared.Point.{Point}
 use Rattle.sheet.specs.declared.Wire.{Wire}
 use Rattle.sheet.specs.declared.Joint.{Joint}
-use Rattle.sheet.specs.declared.Joints.{Joints}
+use Rattle.sheet.specs.Tables.{Joints}
 use Rattle.sheet.specs.Geometry.{tip, low, high, ends}
 use Rattle.sheet.specs.Drawings.{joint_rows}
-use Rattle.nets.specs.declared.Links.{Links}
-use Rattle.nets.specs.declared.Pads.{Pads}
+use Rattle.nets.specs.Joined.{Links}
+use Rattle.nets.specs.Joined.{Pads}
 use Rattle.nets.specs.Tables as Tables
 use Rattle.nets.specs.Tables.{JointNumber, link_rows, pad_rows}
 use Rattle.net_numbers.specs.Netted.{ends_of, number_of_joint}

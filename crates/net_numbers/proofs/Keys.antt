@@ -8,7 +8,7 @@ use lib.ListN.{length, get_or, length-take}
 use Rattle.lists.specs.Lists.{◌∈◌}
 use Rattle.lists.proofs.Tests.{compare}
 use Rattle.symbol.specs.declared.Point.{Point}
-use Rattle.sheet.specs.declared.Joints.{Joints}
+use Rattle.sheet.specs.Tables.{Joints}
 use Rattle.sheet.specs.Points.{Rise, lower, level}
 use Rattle.sheet.specs.Drawings.{joint_rows, zero_joint}
 use Rattle.joints.specs.Keys.{spot, KeysOf}

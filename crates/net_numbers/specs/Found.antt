@@ -5,12 +5,12 @@ use Rattle.lists.specs.Lists.{◌∈◌}
 use Rattle.symbol.specs.declared.Point.{Point}
 use Rattle.sheet.specs.declared.Wire.{Wire}
 use Rattle.sheet.specs.declared.Joint.{Joint}
-use Rattle.sheet.specs.declared.Joints.{Joints}
+use Rattle.sheet.specs.Tables.{Joints}
 use Rattle.sheet.specs.Joints.{joint_point, Rising}
 use Rattle.sheet.specs.Drawings.{joint_rows}
 use Rattle.joints.specs.Keys.{spot}
-use Rattle.nets.specs.declared.Links.{Links}
-use Rattle.nets.specs.declared.Pads.{Pads}
+use Rattle.nets.specs.Joined.{Links}
+use Rattle.nets.specs.Joined.{Pads}
 use Rattle.nets.specs.Tables.{LinksFit, PadsFit, link_rows, pad_rows}
 use Rattle.net_numbers.specs.Netted.{ends_of, number_of_joint}
 

@@ -3,8 +3,8 @@ use mathlib.Core.Path.{◌≡◌, sym, ◌∙◌}
 use mathlib.Core.Logic.{◌↔◌}
 use mathlib.Core.List.{List}
 use Prim.Native.Nat.{ℕ}
-use Rattle.nets.specs.declared.Links.{Links}
-use Rattle.nets.specs.declared.Pads.{Pads}
+use Rattle.nets.specs.Joined.{Links}
+use Rattle.nets.specs.Joined.{Pads}
 use Rattle.nets.specs.Nets.{Fed, OneNet}
 use Rattle.nets.specs.Tables.{JointNumber, LinksFit, PadsFit, net_in, root_of, Rooted}
 use Rattle.nets.proofs.Told.{one_net, fed_zero}

@@ -18,8 +18,8 @@ use Rattle.lists.proofs.Tables.{row_in}
 use Rattle.lists.proofs.Passes.{take_more}
 use Rattle.lists.proofs.Tests.{decide}
 use Rattle.nets.specs.declared.Link.{Link}
-use Rattle.nets.specs.declared.Links.{Links}
-use Rattle.nets.specs.declared.Pads.{Pads}
+use Rattle.nets.specs.Joined.{Links}
+use Rattle.nets.specs.Joined.{Pads}
 use Rattle.nets.specs.Numbers.{first_net}
 use Rattle.nets.specs.Tables.{JointNumber, LinksFit, PadsFit, link_ends, link_rows, pad_rows, tabulate}
 use Rattle.nets.proofs.Tabulate.{tabulated, tabulate_at, length_tabulate, after_set}

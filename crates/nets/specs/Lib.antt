@@ -1,3 +1,4 @@
+pub mod Joined
 pub mod Nets
 pub mod Numbers
 pub mod Tables

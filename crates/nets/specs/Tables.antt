@@ -3,8 +3,8 @@
 use Rattle.std.specs.Prelude.{◌≡◌, List, [], ◌∷◌, ◌++◌, map, ℕ, zero, suc, ◌<◌, ◌≤◌, min, max, length, get_or, set, take}
 use Rattle.lists.specs.Lists.{◌∈◌}
 use Rattle.nets.specs.declared.Link.{Link}
-use Rattle.nets.specs.declared.Links.{Links}
-use Rattle.nets.specs.declared.Pads.{Pads}
+use Rattle.nets.specs.Joined.{Links}
+use Rattle.nets.specs.Joined.{Pads}
 use Rattle.nets.specs.Nets.{Net}
 use Rattle.nets.specs.Numbers.{net_of, rank}
 

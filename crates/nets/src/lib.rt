@@ -7,6 +7,8 @@ ghost use Rattle.nets.specs.Numbers;
 ghost use Rattle.nets.specs.Numbers.{first_net, net_of, numbering, numbers_of};
 ghost use Rattle.nets.specs.Tables.{JointNumber, LinksFit, PadsFit, net_in, pad_rows, tabulate, Falling, root_of, join_of, Rooted, Ranked};
 
+use table::Table;
+
 // A wire by the joints at its two ends.
 #[derive(Clone, Copy)]
 pub struct Link {
@@ -14,18 +16,10 @@ pub struct Link {
     pub to: u16,
 }
 
-#[derive(Clone, Copy)]
-pub struct Links {
-    pub rows: [Link; 512],
-    pub count: usize,
-}
+pub type Links = Table<Link, 512>;
 
 // Pads by their joints.
-#[derive(Clone, Copy)]
-pub struct Pads {
-    pub rows: [u16; 384],
-    pub count: usize,
-}
+pub type Pads = Table<u16, 384>;
 
 // The smallest number that the aliases lead to from n. The number falls at each call.
 fn root(alias: &[u16; 1409], n: u16) -> u16

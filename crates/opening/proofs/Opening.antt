@@ -10,8 +10,8 @@ use lib.Seq.{drop-cons}
 use Rattle.lists.specs.Lists.{◌∈◌}
 use Rattle.lists.proofs.Tables.{holds_list, holds_self, holds_count}
 use Rattle.lists.proofs.Tests.{Reads, pass, fail, ltb_reads, clash}
-use Rattle.sheet.specs.declared.Wires.{Wires}
-use Rattle.sheet.specs.declared.Components.{Components}
+use Rattle.sheet.specs.Tables.{Wires}
+use Rattle.sheet.specs.Tables.{Components}
 use Rattle.sheet.specs.declared.Drawing.{Drawing}
 use Rattle.sheet.specs.Drawings.{Sheet, empty_sheet, drawn}
 use Rattle.joints.specs.Tables.{sheet_of, Sound}

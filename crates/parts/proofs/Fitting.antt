@@ -14,7 +14,7 @@ use Rattle.orientation.specs.declared.Turned.{Turned}
 use Rattle.orientation.specs.Orientations.{turn_by, turned_by}
 use Rattle.orientation.proofs.Turns.{turn_known}
 use Rattle.sheet.specs.declared.Component.{Component}
-use Rattle.sheet.specs.declared.Components.{Components}
+use Rattle.sheet.specs.Tables.{Components}
 use Rattle.sheet.specs.Parts.{PartFits, ahead, reoriented}
 use Rattle.sheet.specs.Drawings.{component_rows}
 use Rattle.parts.specs.Tables.{TabledParts, PartsFit}

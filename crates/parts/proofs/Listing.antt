@@ -13,7 +13,7 @@ use Rattle.symbol.specs.Symbols.{unused, pad_block, pads_at}
 use Rattle.sheet.specs.declared.Component.{Component}
 use Rattle.sheet.specs.Parts.{pads}
 use Rattle.sheet.proofs.Parts.{pads_by_kind, length_pads}
-use Rattle.wires.specs.declared.Points.{Points}
+use Rattle.wires.specs.Points.{Points}
 use Rattle.wires.specs.Tables.{point_rows}
 use Rattle.parts.specs.Tables.{Block, TabledPoints}
 

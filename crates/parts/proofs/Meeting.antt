@@ -9,7 +9,7 @@ use Rattle.symbol.specs.declared.Point.{Point}
 use Rattle.symbol.specs.declared.Bounds.{Bounds}
 use Rattle.symbol.specs.Symbols.{touches_of}
 use Rattle.sheet.specs.declared.Component.{Component}
-use Rattle.sheet.specs.declared.Components.{Components}
+use Rattle.sheet.specs.Tables.{Components}
 use Rattle.sheet.specs.Boxes.{square}
 use Rattle.sheet.specs.Parts.{box, is_contact}
 use Rattle.sheet.specs.Edits.{meets_part, hits}

@@ -7,20 +7,24 @@ use Rattle.symbol.specs.declared.PadBlock.{PadBlock}
 use Rattle.symbol.specs.declared.Bounds.{Bounds}
 use Rattle.symbol.specs.Symbols.{touches_of}
 use Rattle.sheet.specs.declared.Component.{Component}
-use Rattle.sheet.specs.declared.Components.{Components}
+use Rattle.sheet.specs.Tables.{Components}
 use Rattle.sheet.specs.Parts.{box, is_contact, PartFits}
 use Rattle.sheet.specs.Drawings.{zero_component, component_rows}
-use Rattle.wires.specs.declared.Points.{Points}
+use Rattle.wires.specs.Points.{Points}
 use Rattle.wires.specs.Tables.{point_rows}
 
 -- the table holds the list, and zero rows behind it
 abbrev pub TabledParts : List Component → Components → Type 0
 TabledParts cs t = Holds 128 zero_component cs t.rows t.count
 
+-- each component meets the limits
+abbrev pub EachFits : List Component → Type 0
+EachFits cs = (c : Component) → c ∈ cs → PartFits c
+
 -- the count is within the room, and each component in use meets the limits
 pub record PartsFit (t : Components) : Type 0 where
   pub room : t.count ≤ 128
-  pub each : (c : Component) → c ∈ component_rows t → PartFits c
+  pub each : EachFits (component_rows t)
 
 -- a component that the box meets, of every kind or a contact
 abbrev pub met : Bounds → Bool → Component → Bool

@@ -8,8 +8,8 @@ use Rattle.lists.specs.Lists.{◌∈◌}
 use Rattle.lists.proofs.Tables.{holds_self, holds_list}
 use Rattle.symbol.specs.Replies.{granted}
 use Rattle.sheet.specs.declared.Component.{Component}
-use Rattle.sheet.specs.declared.Wires.{Wires}
-use Rattle.sheet.specs.declared.Components.{Components}
+use Rattle.sheet.specs.Tables.{Wires}
+use Rattle.sheet.specs.Tables.{Components}
 use Rattle.sheet.specs.declared.Drawing.{Drawing}
 use Rattle.sheet.specs.declared.Tally.{Tally}
 use Rattle.sheet.specs.Parts.{PartFits}

@@ -12,7 +12,7 @@ use Rattle.std.specs.List.{list_any, list_all}
 use Rattle.lists.specs.Tables.{pad}
 use Rattle.lists.proofs.Tests.{holds}
 use Rattle.sheet.specs.declared.Joint.{Joint}
-use Rattle.sheet.specs.declared.Joints.{Joints}
+use Rattle.sheet.specs.Tables.{Joints}
 use Rattle.sheet.specs.declared.Drawing.{Drawing}
 use Rattle.sheet.specs.Points.{same, rises}
 use Rattle.sheet.specs.Joints.{joint_point, joints_of}

@@ -33,7 +33,7 @@ rule_3_joints ws ps = same_test (reads_as (into, out) (all_reads (λ j. free_rea
     js = joints_of (marks ws ps)
 
     into : ((j : Joint) → j ∈ js → (w : Wire) → w ∈ ws → Inside (joint_point j) w → ⊥) → Rule3 ws ps
-    into f p m = let t = (joints_listed (marks ws ps)).list_all p m in subst (λ q. (w : Wire) → w ∈ ws → Inside q w → ⊥) t.2 (f t.0 t.1)
+    into f p m = let t = (joints_listed (marks ws ps)).all p m in subst (λ q. (w : Wire) → w ∈ ws → Inside q w → ⊥) t.2 (f t.0 t.1)
 
     out : Rule3 ws ps → (j : Joint) → j ∈ js → (w : Wire) → w ∈ ws → Inside (joint_point j) w → ⊥
     out r j m = r (joint_point j) ((joints_listed (marks ws ps)).only j m)
@@ -88,7 +88,7 @@ rule_6_rows js ps = same_test
     into : Rows (λ i j. joint_point i ≡ joint_point j → ⊥) js × (Among (joints_of ps) js × Among js (joints_of ps)) → Rule6 js ps
     into t = record {
       once = t.0;
-      list_all = λ p m. let i = there.list_all p m in let j = t.1.0 i.0 i.1 in (j.0, j.1, sym (ap joint_point j.2) ∙ i.2);
+      all = λ p m. let i = there.all p m in let j = t.1.0 i.0 i.1 in (j.0, j.1, sym (ap joint_point j.2) ∙ i.2);
       only = λ j m. let i = t.1.1 j m in subst (λ k. joint_point k ∈ ps) (sym i.2) (there.only i.0 i.1);
       right = λ j m. let i = t.1.1 j m in subst (λ (k : Joint). k.count ≡ number (joint_point k) ps) (sym i.2) (there.right i.0 i.1);
     }
@@ -96,7 +96,7 @@ rule_6_rows js ps = same_test
     -- two lists of the same points have the same rows
     one : (xs ys : List Joint) → Rule6 xs ps → Rule6 ys ps → Among xs ys
     one xs ys a b i m =
-        let j = b.list_all (joint_point i) (a.only i m) in
+        let j = b.all (joint_point i) (a.only i m) in
         let c : i.count ≡ j.0.count = a.right i m ∙ ap (λ p. number p ps) (sym j.2) ∙ sym (b.right j.0 j.1) in
         (j.0, j.1, λ k. record { x = ap (λ (p : Point). p.x) (sym j.2) k; y = ap (λ (p : Point). p.y) (sym j.2) k; count = c k })
 

@@ -1,3 +1,4 @@
+pub mod Tables
 pub mod Points
 pub mod Geometry
 pub mod Split

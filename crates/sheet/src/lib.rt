@@ -2,6 +2,8 @@
 // Coordinates are held plus 6,000, so that none is negative.
 #![tactic(auto)]
 
+use table::Table;
+
 // line: y of a horizontal wire, x of a vertical one; start and end along it.
 #[derive(Clone, Copy)]
 pub struct Wire {
@@ -29,23 +31,11 @@ pub struct Joint {
     pub count: u16,
 }
 
-#[derive(Clone, Copy)]
-pub struct Wires {
-    pub rows: [Wire; 512],
-    pub count: usize,
-}
+pub type Wires = Table<Wire, 512>;
 
-#[derive(Clone, Copy)]
-pub struct Components {
-    pub rows: [Component; 128],
-    pub count: usize,
-}
+pub type Components = Table<Component, 128>;
 
-#[derive(Clone, Copy)]
-pub struct Joints {
-    pub rows: [Joint; 1408],
-    pub count: usize,
-}
+pub type Joints = Table<Joint, 1408>;
 
 #[derive(Clone, Copy)]
 pub struct Drawing {

@@ -11,7 +11,7 @@ use Rattle.symbol.specs.declared.Point.{Point}
 use Rattle.lists.specs.Tables.{pad}
 use Rattle.lists.proofs.Tables.{holds_list, holds_self, holds_count}
 use Rattle.sheet.specs.declared.Wire.{Wire}
-use Rattle.sheet.specs.declared.Wires.{Wires}
+use Rattle.sheet.specs.Tables.{Wires}
 use Rattle.sheet.specs.Split.{split_at, split_all}
 use Rattle.sheet.specs.Drawings.{zero_wire, wire_table, wire_rows}
 use Rattle.sheet.proofs.Split.{split_no_shorter, split_all_append}

@@ -4,10 +4,10 @@ use Rattle.std.specs.Prelude.{◌≤◌, ◌≡◌, List, [], cond, ltb, length,
 use Rattle.lists.specs.Tables.{Holds}
 use Rattle.symbol.specs.declared.Point.{Point}
 use Rattle.sheet.specs.declared.Wire.{Wire}
-use Rattle.sheet.specs.declared.Wires.{Wires}
+use Rattle.sheet.specs.Tables.{Wires}
 use Rattle.sheet.specs.Split.{split_all}
 use Rattle.sheet.specs.Drawings.{zero_wire}
-use Rattle.wires.specs.declared.Points.{Points}
+use Rattle.wires.specs.Points.{Points}
 use Rattle.wires.specs.declared.Grown.{Grown}
 
 -- the points in use

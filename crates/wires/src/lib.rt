@@ -11,13 +11,10 @@ ghost use Rattle.wires.specs.Tables.{Tabled, Grows};
 
 use sheet::{Wire, Wires};
 use symbol::Point;
+use table::Table;
 
 // The pads of all components of a drawing: three times 128 at most.
-#[derive(Clone, Copy)]
-pub struct Points {
-    pub rows: [Point; 384],
-    pub count: usize,
-}
+pub type Points = Table<Point, 384>;
 
 // A table of wires, or the word that it has no room for what was asked; then it has no rows.
 #[derive(Clone, Copy)]

@@ -5,7 +5,7 @@ use Prim.Native.Nat.{ℕ, ◌<◌}
 use native.Mathlib.Omega.{arith}
 use lib.ListN.{length, get_or}
 use Rattle.lists.proofs.Tables.{long}
-use Rattle.nets.specs.declared.Links.{Links}
+use Rattle.nets.specs.Joined.{Links}
 use Rattle.nets.specs.Tables.{JointNumber, LinksFit, Rooted, link_rows, pad_rows}
 use Rattle.nets.proofs.Chains.{net_with}
 use Rattle.nets.proofs.Walks.{wire_joints, wire_next}

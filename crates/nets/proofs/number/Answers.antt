@@ -5,7 +5,7 @@ use Prim.Native.Nat.{ℕ, ◌<◌}
 use native.Mathlib.Omega.{arith}
 use borrow.Author.Rules.{rules}
 use lib.ListN.{length, get_or}
-use Rattle.nets.specs.declared.Pads.{Pads}
+use Rattle.nets.specs.Joined.{Pads}
 use Rattle.nets.specs.Tables.{Falling, JointNumber, PadsFit, pad_rows}
 use Rattle.nets.proofs.Walks.{pad_joint, pads_next}
 use Rattle.nets.proofs.Ranks.{ranked_none, passed_none, passed_rank, passed_next}
