@@ -66,7 +66,7 @@ all_upright : (ws : List Wire) → AllOf true ws → directed false ws ++ direct
 all_upright ws h = ap₂ ◌++◌ (other_direction false true ws h (λ e. clash refl e)) (same_direction true ws h)
 
 pub levels_first : {ws : List Wire} → Rows Upward ws → directed false ws ++ directed true ws ≡ ws
-levels_first none = unfold filter in refl
+levels_first none = refl
 levels_first (more {x = w} {xs = ws} h r) = go w.vertical refl (levels_first r)
   where
     go : (v : Bool) → w.vertical ≡ v → directed false ws ++ directed true ws ≡ ws → directed false (w ∷ ws) ++ directed true (w ∷ ws) ≡ w ∷ ws
