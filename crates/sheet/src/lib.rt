@@ -5,7 +5,7 @@
 use table::Table;
 
 // line: y of a horizontal wire, x of a vertical one; start and end along it.
-#[derive(Clone, Copy)]
+#[derive(Clone, Copy, PartialEq, Eq)]
 pub struct Wire {
     pub vertical: bool,
     pub line: u16,
@@ -14,7 +14,7 @@ pub struct Wire {
 }
 
 // kind: 0 Power, 1 Contact, 2 Coil; orientation: the number of one of the eight, 0 to 7; label: its bytes with zeros behind.
-#[derive(Clone, Copy)]
+#[derive(Clone, Copy, PartialEq, Eq)]
 pub struct Component {
     pub kind: u8,
     pub orientation: u8,
@@ -24,7 +24,7 @@ pub struct Component {
 }
 
 // A point with wire ends or pads, and the number of both.
-#[derive(Clone, Copy)]
+#[derive(Clone, Copy, PartialEq, Eq)]
 pub struct Joint {
     pub x: u16,
     pub y: u16,
