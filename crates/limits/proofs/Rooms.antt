@@ -1,11 +1,9 @@
 -- The test of rule 1 part by part, and what it tells the later rules.
 use Prim.Native.Nat.{◌≤◌}
-use mathlib.Core.Bool.{Bool, true, false, ◌&&◌}
+use mathlib.Core.Bool.{true, ◌&&◌}
 use mathlib.Core.Path.{◌≡◌, sym, subst}
 use lib.Dec.{T}
-use lib.ListN.{drop}
 use Rattle.lists.specs.Lists.{◌∈◌}
-use Rattle.std.specs.List.{list_all}
 use Rattle.lists.proofs.Tests.{both, holds, and_reads, leb_reads}
 use Rattle.lists.proofs.Lists.{all_reads}
 use Rattle.sheet.specs.declared.Component.{Component}
@@ -13,7 +11,7 @@ use Rattle.sheet.specs.declared.Drawing.{Drawing}
 use Rattle.sheet.specs.Parts.{PartFits}
 use Rattle.sheet.specs.Drawings.{lists_of}
 use Rattle.sheet.specs.Wiring.{AllFit}
-use Rattle.limits.specs.Limits.{blank_wire, blank_component, blank_joint, wire_fits, component_fits, rooms, blanks, limits, check1}
+use Rattle.limits.specs.Limits.{rooms, blanks, limits, check1}
 use Rattle.limits.proofs.Decides.{fits_reads, component_reads}
 
 pub record InRooms (d : Drawing) : Type 0 where
@@ -26,16 +24,6 @@ unfolding rooms
 in_rooms d e =
     let t = holds (and_reads (leb_reads d.wires.count 512) (and_reads (leb_reads d.components.count 128) (leb_reads d.joints.count 1408))) (subst T (sym e) tt) in
     record { wires = t.0; components = t.1.0; joints = t.1.1 }
-
-pub out_of_rooms : (d : Drawing) → rooms d ≡ false → false ≡ check1 d
-unfolding check1
-out_of_rooms d e = rw e
-
-pub rule_1_parts : (d : Drawing) {a b c e f : Bool} → rooms d ≡ true
-    → a ≡ list_all blank_wire (drop d.wires.count d.wires.rows) → b ≡ list_all blank_component (drop d.components.count d.components.rows) → c ≡ list_all blank_joint (drop d.joints.count d.joints.rows)
-    → e ≡ list_all wire_fits (lists_of d).wires → f ≡ list_all component_fits (lists_of d).parts → ((a && (b && c)) && (e && f)) ≡ check1 d
-unfolding check1 blanks limits
-rule_1_parts d h p q r s t = rw h (λ i. (p i && (q i && r i)) && (s i && t i))
 
 -- ---- what a passed test tells
 
