@@ -2,7 +2,7 @@
 // so a first run over a byte of one's own tells the length of a text.
 #![tactic(auto)]
 
-ghost use Rattle.std.specs.Prelude.{◌≡◌, [], ◌∷◌, nat_abs};
+ghost use Rattle.std.specs.Prelude.{◌≡◌, [], ◌∷◌};
 ghost use Rattle.text.specs.Text.{Put, Room, decimal_of, signed_of};
 
 // A reply, and how many bytes of the lent buffer were written.
@@ -13,13 +13,13 @@ pub struct Written {
 }
 
 // One byte.
+#[tactic(auto, using(std::proofs::lemmas::List::set_past))]
 pub fn put_byte(out: &mut [u8], at: usize, b: u8) -> usize
     requires { Room at (b ∷ []) }
     ensures { Put out.old at (b ∷ []) out.new result }
 {
     if at < out.len() {
         out[at] = b;
-        return at + 1;
     }
     at + 1
 }
@@ -30,10 +30,8 @@ pub fn put_bytes(out: &mut [u8], at: usize, bytes: &[u8]) -> usize
     ensures { Put out.old at bytes.now out.new result }
 {
     let mut next = at;
-    let mut j: usize = 0;
-    while j < bytes.len() {
-        next = put_byte(out, next, bytes[j]);
-        j += 1;
+    for b in bytes {
+        next = put_byte(out, next, *b);
     }
     next
 }
@@ -51,16 +49,6 @@ pub fn put_decimal(out: &mut [u8], at: usize, n: u32) -> usize
     put_byte(out, next, 48 + (n % 10) as u8)
 }
 
-// How far a number is from zero. (The lowest number has no opposite, so the opposite of the next one is taken.)
-fn magnitude(n: i32) -> u32
-    ensures { result ≡ nat_abs n }
-{
-    if n < 0 {
-        return (-1 - n) as u32 + 1;
-    }
-    n as u32
-}
-
 // A number with its sign: a minus before a negative one.
 pub fn put_signed(out: &mut [u8], at: usize, n: i32) -> usize
     requires { Room at (signed_of n) }
@@ -68,7 +56,7 @@ pub fn put_signed(out: &mut [u8], at: usize, n: i32) -> usize
 {
     if n < 0 {
         let next = put_byte(out, at, b'-');
-        return put_decimal(out, next, magnitude(n));
+        return put_decimal(out, next, n.unsigned_abs());
     }
-    put_decimal(out, at, magnitude(n))
+    put_decimal(out, at, n.unsigned_abs())
 }

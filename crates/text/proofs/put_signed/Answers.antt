@@ -12,18 +12,18 @@ put_byte-next-requires c =
 
 pub put_decimal-requires : goal.put_decimal-requires
 put_decimal-requires c =
-    let text = minus_text c.args.n c.ranges.n c.if-n-lt0.true _ c.magnitude.ensures in
+    let text = minus_text c.args.n c.ranges.n c.if-n-lt0.true _ c.unsigned_abs.ensures.value in
     omega (arith, c.put_byte-next.ensures.behind, ap length text)
 
 pub returns-then-n-lt0 : goal.returns-then-n-lt0
 returns-then-n-lt0 c =
-    let text = minus_text c.args.n c.ranges.n c.if-n-lt0.true _ c.magnitude.ensures in
+    let text = minus_text c.args.n c.ranges.n c.if-n-lt0.true _ c.unsigned_abs.ensures.value in
     put_as (sym text) (put_then c.put_byte-next.ensures c.put_decimal.ensures)
 
 pub put_decimal-requires-2 : goal.put_decimal-requires-2
 put_decimal-requires-2 c =
-    omega (arith, ap length (plain_text c.args.n c.ranges.n c.if-n-lt0.false _ c.magnitude-2.ensures))
+    omega (arith, ap length (plain_text c.args.n c.ranges.n c.if-n-lt0.false _ c.unsigned_abs-2.ensures.value))
 
 pub returns : goal.returns
 returns c =
-    put_as (sym (plain_text c.args.n c.ranges.n c.if-n-lt0.false _ c.magnitude-2.ensures)) c.put_decimal-2.ensures
+    put_as (sym (plain_text c.args.n c.ranges.n c.if-n-lt0.false _ c.unsigned_abs-2.ensures.value)) c.put_decimal-2.ensures
