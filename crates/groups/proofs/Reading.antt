@@ -1,61 +1,24 @@
 -- Numbers read from an index of some bytes on, by what the code finds there.
-use mathlib.Core.Path.{◌≡◌, refl, sym, ap, subst, ◌∙◌}
-use mathlib.Core.Bool.{Bool, true, false, cond, ◌&&◌}
+use mathlib.Core.Path.{◌≡◌, refl, sym, ap, ◌∙◌}
 use mathlib.Core.List.{List, [], ◌∷◌}
-use Prim.Native.Nat.{ℕ, zero, suc, ◌+◌, ◌-◌, ◌%◌, ◌≤◌, ◌<◌}
+use Prim.Native.Nat.{ℕ, zero, suc, ◌+◌, ◌-◌, ◌*◌, ◌%◌, ◌≤◌, ◌<◌}
 use native.Mathlib.Numerals.{add-one}
 use native.Mathlib.Omega.{arith}
-use lib.Dec.{leb}
 use lib.ListN.{length, get_or, drop, drop_of_length-le}
 use lib.Seq.{drop-cons}
 use borrow.Author.Tests.{lt-ltb, le-ltb, le-leb, lt-leb, eq-eqb, ne_eqb}
-use Rattle.groups.specs.Taken.{Taken, took, refused, then, short, if}
-use Rattle.groups.specs.Groups.{above, later_groups, take_number, take_in}
-use Rattle.groups.specs.Indexes.{number_at, Inside, above_in, Small, within_of}
-use Rattle.groups.specs.declared.Number.{Number}
-use Rattle.groups.specs.declared.Number.TheVariants.{Read, Refused}
+use Rattle.groups.specs.Taken.{Taken, took, refused, then, short}
+use Rattle.groups.specs.Groups.{above, later_groups, take_number}
 use Rattle.groups.proofs.Told.{Told, told, not}
 use Rattle.groups.proofs.Laws.{Low, most_three, later_low}
 
--- ---- the answer's cases
+-- a later number is small
+small : {t : Taken ℕ} (k n : ℕ) (r : List ℕ) → Told (λ m rest. Low k m) t → took n r ≡ t → k ≤ 3 → n ≤ 33554431
+small k n r (told {a = m} l) e h = let v : n ≡ m = cc in omega (arith, l.low, most_three k h)
+small k n r (not f) e h = absurd (let z : ◌≡◌ {A = ℕ} 0 1 = cc in omega arith)
 
-pub above_at : (s : List ℕ) (low : ℕ) (n : Number) → number_at s (above_in low n) ≡ above low (number_at s n)
-unfolding then
-above_at s low (Read n next) = refl
-above_at s low (Refused r) = refl
-
-pub inside_above : (room low : ℕ) (n : Number) {r : Number} → r ≡ above_in low n → Inside room n → Inside room r
-inside_above room low (Read n next) e h = subst (Inside room) (sym e) h
-inside_above room low (Refused r) e h = subst (Inside room) (sym e) tt
-
-small : (n : Number) (s : List ℕ) (k : ℕ) {t : Taken ℕ} → number_at s n ≡ t → k ≤ 3 → Told (λ m rest. Low k m) t → Small n
-small (Read m next) s k e h (told {a = n} l) = let v : m ≡ n = cc in omega (arith, l.low, most_three k h)
-small (Read m next) s k e h (not r) = absurd (let z : ◌≡◌ {A = ℕ} 0 1 = cc in omega arith)
-small (Refused r) s k e h t = tt
-
-pub is_small : (n : Number) (s rest : List ℕ) (k : ℕ) → number_at s n ≡ later_groups k rest → k ≤ 3 → Small n
-is_small n s rest k e h = small n s k e h (later_low k rest)
-
-pub within_at : (s : List ℕ) (low high : ℕ) (n : Number) → number_at s (within_of low high n) ≡ then (number_at s n) (λ m. if (leb low m && leb m high) m)
-unfolding then
-within_at s low high (Read n next) = go (leb low n && leb n high)
-  where
-    go : (b : Bool) → number_at s (cond b (Read n next) (Refused 13)) ≡ if b n (drop next s)
-    go true = refl
-    go false = refl
-within_at s low high (Refused r) = refl
-
-pub inside_within : (room low high : ℕ) (n : Number) {r : Number} → r ≡ within_of low high n → Inside room n → Inside room r
-inside_within room low high (Read n next) e h = subst (Inside room) (sym e) (go (leb low n && leb n high))
-  where
-    go : (b : Bool) → Inside room (cond b (Read n next) (Refused 13))
-    go true = h
-    go false = tt
-inside_within room low high (Refused r) e h = subst (Inside room) (sym e) tt
-
-pub in_at : (s rest : List ℕ) (low high : ℕ) (n r : Number) → number_at s n ≡ take_number rest → r ≡ within_of low high n → number_at s r ≡ take_in low high rest
-unfolding take_in
-in_at s rest low high n r e q = ap (number_at s) q ∙ within_at s low high n ∙ ap (λ t. then t (λ m. if (leb low m && leb m high) m)) e
+pub is_small : (k n : ℕ) (r s : List ℕ) → took n r ≡ later_groups k s → k ≤ 3 → n ≤ 33554431
+is_small k n r s e h = small k n r (later_low k s) e h
 
 -- ---- past the end
 
@@ -82,7 +45,7 @@ module _ (s : List ℕ) (at b : ℕ) (h : at < length s) (e : b ≡ get_or s at 
   zero_group zero z = rw (eq-eqb b 0 z)
   zero_group (suc k) z = rw (eq-eqb b 0 z)
 
-  zero_in : (k : ℕ) → b ≡ 0 → refused 13 ≡ later_groups k (drop at s)
+  pub zero_in : (k : ℕ) → b ≡ 0 → refused 13 ≡ later_groups k (drop at s)
   zero_in k z = zero_group k z ∙ ap (later_groups k) (sym here)
 
   module _ (some : b ≡ 0 → ⊥) where
@@ -115,8 +78,13 @@ module _ (s : List ℕ) (at b : ℕ) (h : at < length s) (e : b ≡ get_or s at 
         let q : suc k - 1 ≡ k = omega arith in
         rw (ne_eqb b 0 some, le-ltb b 128 l) (ap (λ j. above (b % 128) (later_groups j (drop (at + 1) s))) q)
 
-    pub more_in : (k : ℕ) (n r : Number) → (k ≡ 0 → ⊥) → 128 ≤ b → number_at s n ≡ later_groups (k - 1) (drop (at + 1) s) → r ≡ above_in (b % 128) n → number_at s r ≡ later_groups k (drop at s)
-    more_in k n r z l g q = ap (number_at s) q ∙ above_at s (b % 128) n ∙ ap (above (b % 128)) g ∙ more k z l ∙ ap (later_groups k) (sym here)
+    pub more_ends : (k r : ℕ) → (k ≡ 0 → ⊥) → 128 ≤ b → refused r ≡ later_groups (k - 1) (drop (at + 1) s) → refused r ≡ later_groups k (drop at s)
+    unfolding then
+    more_ends k r z l g = ap (above (b % 128)) g ∙ more k z l ∙ ap (later_groups k) (sym here)
+
+    pub more_in : (k n : ℕ) (r : List ℕ) → (k ≡ 0 → ⊥) → 128 ≤ b → took n r ≡ later_groups (k - 1) (drop (at + 1) s) → took (b % 128 + 128 * n) r ≡ later_groups k (drop at s)
+    unfolding then
+    more_in k n r z l g = ap (above (b % 128)) g ∙ more k z l ∙ ap (later_groups k) (sym here)
 
   one : b < 128 → took b (drop (at + 1) s) ≡ take_number (b ∷ drop (at + 1) s)
   unfolding take_number
@@ -129,9 +97,16 @@ module _ (s : List ℕ) (at b : ℕ) (h : at < length s) (e : b ≡ get_or s at 
   unfolding take_number
   several l = rw (le-ltb b 128 l)
 
-  pub several_in : (n r : Number) → 128 ≤ b → number_at s n ≡ later_groups 3 (drop (at + 1) s) → r ≡ above_in (b % 128) n → number_at s r ≡ take_number (drop at s)
-  several_in n r l g q = ap (number_at s) q ∙ above_at s (b % 128) n ∙ ap (above (b % 128)) g ∙ several l ∙ ap take_number (sym here)
+  pub several_end : (r : ℕ) → 128 ≤ b → refused r ≡ later_groups 3 (drop (at + 1) s) → refused r ≡ take_number (drop at s)
+  unfolding then
+  several_end r l g = ap (above (b % 128)) g ∙ several l ∙ ap take_number (sym here)
 
--- the byte at the index is 0
-pub zero_at : (s : List ℕ) (at k : ℕ) → at < length s → get_or s at 0 ≡ 0 → refused 13 ≡ later_groups k (drop at s)
-zero_at s at k h z = zero_in s at (get_or s at 0) h refl k z
+  pub several_in : (n : ℕ) (r : List ℕ) → 128 ≤ b → took n r ≡ later_groups 3 (drop (at + 1) s) → took (b % 128 + 128 * n) r ≡ take_number (drop at s)
+  unfolding then
+  several_in n r l g = ap (above (b % 128)) g ∙ several l ∙ ap take_number (sym here)
+
+-- what `later_groups` finds at an index
+pub ruleset later_reads = (later_past, zero_in, fifth_in, over_in, last_in, more_ends, more_in, is_small)
+
+-- what `read_number` finds there
+pub ruleset number_reads = (number_past, one_in, several_end, several_in, is_small)
