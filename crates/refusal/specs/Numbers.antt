@@ -25,3 +25,7 @@ number_of BytesBehind = 14
 abbrev pub answered : {A B : Type 0} → (A → B) → (ℕ → B) → Result A Refusal → B
 answered right refused (Ok a) = right a
 answered right refused (Err r) = refused (number_of r)
+
+-- the number alone: 0 where nothing is refused
+abbrev pub reply_of : {A : Type 0} → Result A Refusal → ℕ
+reply_of r = answered (λ a. 0) (λ n. n) r
