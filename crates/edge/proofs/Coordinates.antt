@@ -4,6 +4,8 @@ use Prim.Native.Nat.{ℕ, suc, ◌+◌, ◌-◌, ◌<◌, ◌≤◌, ◌^◌}
 use native.Mathlib.Omega.{arith}
 use mathlib.Core.Bool.{Bool, true, false, cond}
 use mathlib.Core.Logic.{◌↔◌}
+use Rattle.std.specs.Prelude.{Some, None}
+use Rattle.std.specs.Bool.{then_some}
 use lib.Dec.{T, leb}
 use lib.IntN.{ℤ, pos, negsuc, nat_abs, sub_ℕ, ◌+ℤ◌, ◌-ℤ◌}
 use lib.Signed.{lt_z, non_neg}
@@ -11,8 +13,8 @@ use mir.Syntax.{w16, w32}
 use mir.Val.{SFits, Fits, to_z, of_z}
 use mir.Facts.{to_z-of_z, to_z_pos}
 use borrow.Author.Tests.{ltb-true, ltb-false, le-leb, lt-leb, leb-true, leb-false}
-use Rattle.edge.specs.Coordinates.{to_ℕ, coord_of, biased, ranged, found, biased_within, is_position}
-use Rattle.edge.specs.declared.Found.{Found}
+use Rattle.edge.specs.Coordinates.{to_ℕ, coord_of, biased, ranged, found, biased_within, is_position, Found, found_in}
+
 use Rattle.lists.proofs.Tests.{reads_as, and_reads, leb_reads, same_test}
 use Rattle.edge.proofs.Whole.{sub_pos, sub_neg, biased_sub, mag_sub}
 
@@ -100,7 +102,7 @@ chosen true n = refl
 chosen false n = refl
 
 -- what `held_coordinate` finds, if it is a position, is what the narrower range asks
-pub narrowed : (z : ℤ) (p : Found) {b : Bool} → p ≡ biased_within 6000 z → is_position p.at ≡ b → cond b p nowhere ≡ biased_within 5800 z
+narrowed : (z : ℤ) (p : Found) {b : Bool} → p ≡ biased_within 6000 z → is_position p.at ≡ b → cond b p nowhere ≡ biased_within 5800 z
 narrowed z p {b} e t = go (leb (nat_abs z) 6000) refl
   where
     far : (b : Bool) → cond b nowhere nowhere ≡ nowhere
@@ -116,9 +118,20 @@ narrowed z p {b} e t = go (leb (nat_abs z) 6000) refl
         let h = leb-false (nat_abs z) 6000 l in
         ap (λ (f : Found). cond b f nowhere) (e ∙ sym (outside 6000 z h)) ∙ far b ∙ outside 5800 z (omega arith)
 
--- a coordinate that is handed on comes out of its bits as it was
-pub handed : (z : ℤ) → SFits w32 z → biased_within 6000 z ≡ biased_within 6000 (to_z w32 (of_z w32 z))
-handed z f = ap (biased_within 6000) (sym (to_z-of_z {w = w32} {z = z} f))
+-- the two ways of `held_position`; a coordinate that is handed on comes out of its bits as it was
+module _ (z : ℤ) (f : SFits w32 z) where
+  handed : biased_within 6000 (to_z w32 (of_z w32 z)) ≡ biased_within 6000 z
+  handed = ap (biased_within 6000) (to_z-of_z {w = w32} {z = z} f)
+
+  pub narrowed_none : found_in None ≡ biased_within 6000 (to_z w32 (of_z w32 z)) → found_in None ≡ biased_within 5800 z
+  narrowed_none e = narrowed z nowhere (e ∙ handed) refl
+
+  pub narrowed_some : (n : ℕ) → found_in (Some n) ≡ biased_within 6000 (to_z w32 (of_z w32 z)) → found_in (then_some (is_position n) n) ≡ biased_within 5800 z
+  narrowed_some n e = told (is_position n) ∙ narrowed z (found true n) {b = is_position n} (e ∙ handed) refl
+    where
+      told : (b : Bool) → found_in (then_some b n) ≡ cond b (found true n) nowhere
+      told true = refl
+      told false = refl
 
 -- ---- there and back
 pub back : (z : ℤ) → nat_abs z ≤ 6000 → coord_of (biased z) ≡ z

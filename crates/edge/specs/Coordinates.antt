@@ -1,9 +1,6 @@
 -- The coordinates of document 01, whole numbers, and the numbers that rows hold: 6,000 more. The limits of both.
-use Rattle.std.specs.Prelude.{ℕ, Bool, ◌&&◌, cond, leb, ℤ, pos, negsuc, nat_abs, ◌+ℤ◌}
+use Rattle.std.specs.Prelude.{ℕ, Bool, true, false, ◌&&◌, cond, leb, ℤ, pos, negsuc, nat_abs, ◌+ℤ◌, Option, Some, None}
 use Rattle.std.proofs.Math.IntN.{sub_ℕ}
-use Rattle.edge.specs.declared.Found.{Found}
-use Rattle.edge.specs.declared.PointerSize.{PointerSize}
-use Rattle.edge.specs.declared.PointerSize.TheVariants.{Is, Wrong}
 
 -- a whole number that is not negative; a negative one is taken as 0
 abbrev pub to_ℕ : ℤ → ℕ
@@ -23,6 +20,11 @@ biased z = to_ℕ (z +ℤ pos 6000)
 abbrev pub ranged : ℕ → ℤ → Bool
 ranged limit z = leb (nat_abs z) limit
 
+-- a coordinate as rows hold it, or none and 0
+pub record Found : Type 0 where
+  pub within : Bool
+  pub at : ℕ
+
 -- n, or none and 0
 abbrev pub found : Bool → ℕ → Found
 found b n = record { within = b; at = cond b n 0 }
@@ -30,6 +32,11 @@ found b n = record { within = b; at = cond b n 0 }
 -- a coordinate from -limit to limit, as a row's number
 unfoldable pub biased_within : ℕ → ℤ → Found
 biased_within limit z = found (ranged limit z) (biased z)
+
+-- each case of what a call finds
+abbrev pub found_in : Option ℕ → Found
+found_in (Some n) = found true n
+found_in None = found false 0
 
 -- a component's position as rows hold it: -5,800 to 5,800
 abbrev pub is_position : ℕ → Bool
@@ -53,6 +60,6 @@ size_of (pos n) = cond (leb n 1000) (size_is n) no_size
 size_of (negsuc n) = no_size
 
 -- "For an answer that is an enum, a definition provides this paper's number and values for each of the enum's cases."
-abbrev pub sized : PointerSize → SizeAnswer
-sized (Is n) = size_is n
-sized Wrong = no_size
+abbrev pub sized : Option ℕ → SizeAnswer
+sized (Some n) = size_is n
+sized None = no_size
