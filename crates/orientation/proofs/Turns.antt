@@ -4,7 +4,7 @@ use mathlib.Core.Path.{◌≡◌, refl, sym, ap, ◌∙◌, subst}
 use Prim.Native.Nat.{ℕ, zero, suc, ◌<◌, ◌≤◌}
 use native.Mathlib.Nat.{le_of_suc-le-suc}
 use native.Mathlib.Omega.{arith}
-use mathlib.Core.Bool.{Bool, cond}
+use mathlib.Core.Bool.{Bool, true, false, cond}
 use mathlib.Core.List.{List, [], ◌∷◌}
 use lib.Dec.{T, ltb, ltb→lt}
 use lib.IntN.{neg_ℤ-neg_ℤ}
@@ -13,10 +13,15 @@ use borrow.Author.Tests.{lt-ltb, le-ltb}
 use Rattle.std.specs.List.{list_any, list_all}
 use Rattle.lists.specs.Span.{span}
 use Rattle.lists.proofs.Tests.{Reads, pass, fail, ltb_reads}
-use Rattle.orientation.specs.Orientations.{rot_mirror, eight, zeros, same_of, known, eighth, number_of, numbered_of, four_are, no_four, turn_is, no_turn, turn_by, turned_by, rights, lefts, mirrors, right_of, left_of, mirror_of}
+use Rattle.orientation.specs.Orientations.{rot_mirror, eight, zeros, same_of, known, eighth, number_of, FourNumbers, numbered_of, four_are, no_four, four_answered, Turned, turn_is, no_turn, turn_answered, turn_by, turned_by, rights, lefts, mirrors, right_of, left_of, mirror_of}
 use Rattle.orientation.specs.declared.RotMirror.{RotMirror}
-use Rattle.orientation.specs.declared.FourNumbers.{FourNumbers}
-use Rattle.orientation.specs.declared.Turned.{Turned}
+use Rattle.refusal.specs.declared.Refusal.{Refusal}
+use Rattle.refusal.specs.Numbers.{number_of as refusal_number}
+use Rattle.refusal.proofs.Numbers.{refuses}
+use Rattle.refusal.specs.declared.Refusal.TheVariants.{UnknownSymbol}
+use Rattle.std.specs.Prelude.{slice_get, Result, Ok, Err}
+use Rattle.std.specs.Option.{ok_or}
+use Rattle.std.proofs.lemmas.Option.{slice_get_past}
 use Rattle.orientation.proofs.Eight.{Each, up_to, below_8, test_8, of_eight}
 
 -- ---- on any four numbers
@@ -108,14 +113,34 @@ pub turn_none : (t : List ℕ) (n : ℕ) → 8 ≤ n → turned_by t n ≡ no_tu
 unfolding turned_by
 turn_none t n h = λ i. cond (le-ltb n 8 h i) (turn_is (turn_by t n)) no_turn
 
--- a table of eight as the machine reads it
-pub turn_read : (t : List ℕ) → length t ≡ 8 → {n : ℕ} → n < 8 → turn_is (get_or t n 0) ≡ turned_by t n
-turn_read t e {n} h = ap turn_is (go t n (subst (λ k. n < k) (sym e) h)) ∙ sym (turn_known t n h)
-  where
-    go : (t : List ℕ) (n : ℕ) → n < length t → get_or t n 0 ≡ get_or t n 8
-    go [] n h = absurd (let z : ⊥ = omega arith in z)
-    go (x ∷ xs) zero h = refl
-    go (x ∷ xs) (suc n) h = go xs n (le_of_suc-le-suc h)
+-- ---- a table of eight as the code reads it
+abbrev looked_up : {A : Type 0} → List A → ℕ → Result A Refusal
+looked_up t n = ok_or (slice_get t n) UnknownSymbol
+
+read : {A B : Type 0} (f : Result A Refusal → B) (t : List A) (g : ℕ → B) → length t ≡ 8 → ((n : ℕ) → 8 ≤ n → g n ≡ f (Err UnknownSymbol))
+    → Each (λ n. f (looked_up t n) ≡ g n) (up_to 8) → (n : ℕ) → f (looked_up t n) ≡ g n
+read f t g e z h = every (λ n. f (looked_up t n) ≡ g n) h
+    (λ n k. ap (λ o. f (ok_or o UnknownSymbol)) (slice_get_past t n (subst (λ m. m ≤ n) (sym e) k)) ∙ sym (z n k))
+
+abbrev Read : List ℕ → Type 0
+Read t = (n : ℕ) → turn_answered (looked_up t n) ≡ turned_by t n
+
+pub rights_read : Read rights
+unfolding turned_by
+rights_read = read turn_answered rights (turned_by rights) refl (turn_none rights) (refl, (refl, (refl, (refl, (refl, (refl, (refl, (refl, tt))))))))
+
+pub lefts_read : Read lefts
+unfolding turned_by
+lefts_read = read turn_answered lefts (turned_by lefts) refl (turn_none lefts) (refl, (refl, (refl, (refl, (refl, (refl, (refl, (refl, tt))))))))
+
+pub mirrors_read : Read mirrors
+unfolding turned_by
+mirrors_read = read turn_answered mirrors (turned_by mirrors) refl (turn_none mirrors) (refl, (refl, (refl, (refl, (refl, (refl, (refl, (refl, tt))))))))
+
+-- a turn of one of the eight is no refusal
+pub turns : (t : List ℕ) {n : ℕ} (r : Result ℕ Refusal) → n < 8 → turn_answered r ≡ turned_by t n → r ≡ Ok (turn_by t n)
+turns t {n} (Ok m) h e = ap Ok (ap (λ (a : Turned). a.turn) (e ∙ turn_known t n h))
+turns t {n} (Err r) h e = absurd (let k = refuses r in let q : refusal_number r ≡ 0 = ap (λ (a : Turned). a.reply) (e ∙ turn_known t n h) in let z : ⊥ = omega arith in z)
 
 -- after a turn that is answered by 0, the turn back is answered by 0 and the first number
 abbrev Undoes : List ℕ → List ℕ → Type 0
@@ -142,6 +167,10 @@ pub four_none : (n : ℕ) → 8 ≤ n → numbered_of n ≡ no_four
 unfolding numbered_of
 four_none n h = λ i. cond (le-ltb n 8 h i) (four_are (eighth n)) no_four
 
+pub four_read : (n : ℕ) → four_answered (looked_up eight n) ≡ numbered_of n
+unfolding numbered_of
+four_read = read four_answered eight numbered_of refl four_none (refl, (refl, (refl, (refl, (refl, (refl, (refl, (refl, tt))))))))
+
 -- what `numbered` tells are the four numbers of the number, also where it answers 4
 pub told_four : (n : ℕ) {r : FourNumbers} → r ≡ numbered_of n → r.turn ≡ eighth n
 told_four n e = ap (λ (r : FourNumbers). r.turn) e ∙ go (ltb_reads n 8)
@@ -149,3 +178,12 @@ told_four n e = ap (λ (r : FourNumbers). r.turn) e ∙ go (ltb_reads n 8)
     go : {b : Bool} → Reads (n < 8) b → (numbered_of n).turn ≡ eighth n
     go (pass l) = ap (λ (r : FourNumbers). r.turn) (four_known n l)
     go (fail k) = let h : 8 ≤ n = omega (arith, k) in ap (λ (r : FourNumbers). r.turn) (four_none n h) ∙ sym (none n h)
+
+-- and where it refuses, the number is none of 0 to 7, and its refusal is 4
+pub four_refused : (n : ℕ) (r : Refusal) → four_answered (Err r) ≡ numbered_of n → (ltb n 8 ≡ false) × (refusal_number r ≡ 4)
+unfolding numbered_of
+four_refused n r e = go (ltb n 8) (ap (λ (f : FourNumbers). f.reply) e)
+  where
+    go : (b : Bool) → refusal_number r ≡ (cond b (four_are (eighth n)) no_four).reply → (b ≡ false) × (refusal_number r ≡ 4)
+    go true e = absurd (let h = refuses r in let z : ⊥ = omega arith in z)
+    go false e = (refl, e)

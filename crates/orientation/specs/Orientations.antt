@@ -1,10 +1,10 @@
 -- The eight orientations by their numbers, and the three turns.
-use Rattle.std.specs.Prelude.{ℕ, Bool, false, ◌&&◌, cond, not, List, [], ◌∷◌, eqb, ltb, ℤ, pos, negsuc, neg_ℤ, get_or}
+use Rattle.std.specs.Prelude.{ℕ, Bool, false, ◌&&◌, cond, not, List, [], ◌∷◌, eqb, ltb, ℤ, pos, negsuc, neg_ℤ, get_or, Result}
 use Rattle.std.specs.List.{list_any}
 use Rattle.lists.specs.Span.{span}
 use Rattle.orientation.specs.declared.RotMirror.{RotMirror}
-use Rattle.orientation.specs.declared.FourNumbers.{FourNumbers}
-use Rattle.orientation.specs.declared.Turned.{Turned}
+use Rattle.refusal.specs.declared.Refusal.{Refusal}
+use Rattle.refusal.specs.Numbers.{answered}
 
 -- ---- the four numbers
 
@@ -86,26 +86,52 @@ can_turn kind = eqb kind 1
 -- ---- the calls: "A box, pads or a turn asked of a bad kind, orientation or position get 4 or 1, in that order, and zeros for every
 -- number." "For orientations, reply 4 is now a number outside 0 to 7" (document 02, P1).
 
+-- the reply to a turn: a number, and the number of the turned orientation
+pub record Turned : Type 0 where
+  pub reply : ℕ
+  pub turn : ℕ
+
 -- 0 and the number of the turned orientation
 abbrev pub turn_is : ℕ → Turned
 turn_is n = record { reply = 0; turn = n }
 
+-- a refusal and 0
+abbrev pub refused_turn : ℕ → Turned
+refused_turn r = record { reply = r; turn = 0 }
+
 -- 4 and 0
 abbrev pub no_turn : Turned
-no_turn = record { reply = 4; turn = 0 }
+no_turn = refused_turn 4
 
 -- a turn asked of a number, by its table
 unfoldable pub turned_by : List ℕ → ℕ → Turned
 turned_by t n = cond (ltb n 8) (turn_is (turn_by t n)) no_turn
 
+-- each case of what a turn answers
+abbrev pub turn_answered : Result ℕ Refusal → Turned
+turn_answered r = answered turn_is refused_turn r
+
+-- the reply to a call for the four numbers: a number, and the orientation
+pub record FourNumbers : Type 0 where
+  pub reply : ℕ
+  pub turn : RotMirror
+
 -- 0 and the four numbers
 abbrev pub four_are : RotMirror → FourNumbers
 four_are o = record { reply = 0; turn = o }
 
+-- a refusal and zeros
+abbrev pub refused_four : ℕ → FourNumbers
+refused_four r = record { reply = r; turn = zeros }
+
 -- 4 and zeros
 abbrev pub no_four : FourNumbers
-no_four = record { reply = 4; turn = zeros }
+no_four = refused_four 4
 
 -- the four numbers asked of a number
 unfoldable pub numbered_of : ℕ → FourNumbers
 numbered_of n = cond (ltb n 8) (four_are (eighth n)) no_four
+
+-- each case of what a call for the four numbers answers
+abbrev pub four_answered : Result RotMirror Refusal → FourNumbers
+four_answered r = answered four_are refused_four r
