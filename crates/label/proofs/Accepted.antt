@@ -9,6 +9,7 @@ use lib.Dec.{T, leb, eqb, leb→le, eqb→eq}
 use lib.ListN.{length, take, length-take}
 use borrow.Author.Tests.{eq-eqb, ne_eqb}
 use Rattle.std.specs.List.{list_all}
+use Rattle.std.proofs.lemmas.List.Sums.{take_while-cons}
 use Rattle.lists.proofs.Tests.{agree, both_l, both_r, both_T}
 use Rattle.label.specs.Labels.{graphic, padded, given, label_of, judged, held_label, all_zero, label_ok, label_part}
 use Rattle.label.specs.declared.Label.{Label}
@@ -24,7 +25,7 @@ not_zero b t e = subst (λ (x : ℕ). T (graphic x)) e t
 
 next_part : (b : ℕ) (l : List ℕ) → T (graphic b) → label_part (b ∷ l) ≡ b ∷ label_part l
 unfolding label_part
-next_part b l t = λ j. cond (not (ne_eqb b 0 (not_zero b t) j)) (b ∷ label_part l) []
+next_part b l t = take_while-cons (λ c. not (eqb c 0)) b l ∙ (λ j. cond (not (ne_eqb b 0 (not_zero b t) j)) (b ∷ label_part l) [])
 
 -- ---- bytes that a label may have, with zeros behind
 zeros : (n : ℕ) → T (all_zero (padded n []))
@@ -82,7 +83,7 @@ unfolding label_part padded
 zeros_part [] t = (refl, refl)
 zeros_part (b ∷ l) t =
     let e = eqb→eq b 0 (both_l (eqb b 0) (all_zero l) t) in
-    ((λ j. cond (not (eq-eqb b 0 e j)) (b ∷ label_part l) []), λ j. e j ∷ (zeros_part l (both_r (eqb b 0) (all_zero l) t)).1 j)
+    (take_while-cons (λ c. not (eqb c 0)) b l ∙ (λ j. cond (not (eq-eqb b 0 e j)) (b ∷ label_part l) []), λ j. e j ∷ (zeros_part l (both_r (eqb b 0) (all_zero l) t)).1 j)
 
 pub record IsLabel (l : List ℕ) : Type 0 where
   pub bytes : T (list_all graphic (label_part l))

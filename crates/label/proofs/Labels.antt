@@ -1,64 +1,81 @@
--- The leading part of a label, and the test of a label's bytes, one byte at a time. Past the end of a list `get_or` gives 0, so no step asks for a length.
+-- How the code's chains read a label: the leading part up to the first zero, the bytes behind those that a label may have, and zeros filled up.
 use mathlib.Core.Path.{◌≡◌, refl, sym, ap, ◌∙◌}
 use Prim.Native.Nat.{ℕ, zero, suc, ◌+◌, ◌<◌, ◌≤◌}
+use native.Mathlib.Nat.{le_of_suc-le-suc}
 use native.Mathlib.Omega.{arith}
-use native.Mathlib.Numerals.{add-one}
 use mathlib.Core.Bool.{Bool, true, false, not, ◌&&◌, cond}
-use mathlib.Core.List.{List, [], ◌∷◌}
-use lib.Dec.{eqb}
-use lib.ListN.{length, get_or, take, drop, drop_of_length-le}
-use borrow.Author.Tests.{eq-eqb, ne_eqb}
+use mathlib.Core.List.{List, [], ◌∷◌, ◌++◌}
+use lib.Dec.{leb, eqb}
+use lib.ListN.{length, take, drop, length-take}
+use lib.Seq.{take_all}
+use borrow.Author.Tests.{le-leb, lt-leb}
+use native.Mathlib.Numerals.{one-add}
 use Rattle.std.specs.List.{list_all}
-use Rattle.label.specs.Labels.{take_while, label_part, graphic, all_zero, label_ok}
-
--- ---- the leading part: no zero below i, and a zero, or the end, at i
-pub leading : (l : List ℕ) (i : ℕ) → ((k : ℕ) → k < i → get_or l k 0 ≡ 0 → ⊥) → get_or l i 0 ≡ 0 → take i l ≡ label_part l
-unfolding label_part
-leading [] zero f e = refl
-leading [] (suc i) f e = refl
-leading (b ∷ l) zero f e = sym (λ j. cond (not (eq-eqb b 0 e j)) (b ∷ take_while (λ b. not (eqb b 0)) l) [])
-leading (b ∷ l) (suc i) f e =
-    ap {B = List ℕ} (λ r. b ∷ r) (leading l i (λ k h. f (suc k) (omega arith)) e)
-    ∙ sym (λ j. cond (not (ne_eqb b 0 (f zero (omega arith)) j)) (b ∷ take_while (λ b. not (eqb b 0)) l) [])
-
--- ---- the bytes from k on are zero
-zero_step : (l : List ℕ) (k : ℕ) → all_zero (drop k l) ≡ (eqb (get_or l k 0) 0 && all_zero (drop (suc k) l))
-zero_step [] zero = refl
-zero_step [] (suc k) = refl
-zero_step (b ∷ l) zero = refl
-zero_step (b ∷ l) (suc k) = zero_step l k
-
-pub zero_here : (l : List ℕ) (k : ℕ) → get_or l k 0 ≡ 0 → all_zero (drop k l) ≡ all_zero (drop (k + 1) l)
-zero_here l k e = zero_step l k ∙ (λ i. eq-eqb (get_or l k 0) 0 e i && all_zero (drop (sym (add-one k) i) l))
-
-pub no_zero : (l : List ℕ) (k : ℕ) → (get_or l k 0 ≡ 0 → ⊥) → all_zero (drop k l) ≡ false
-no_zero l k f = zero_step l k ∙ (λ i. ne_eqb (get_or l k 0) 0 f i && all_zero (drop (suc k) l))
-
-pub zero_end : (l : List ℕ) (k : ℕ) → length l ≤ k → all_zero (drop k l) ≡ true
-zero_end l k h = ap all_zero (drop_of_length-le l h)
-
--- ---- the bytes from k on are a label's
-ok_step : (l : List ℕ) (k : ℕ) → label_ok (drop k l) ≡ cond (graphic (get_or l k 0)) (label_ok (drop (suc k) l)) (all_zero (drop k l))
-unfolding label_ok
-ok_step [] zero = refl
-ok_step [] (suc k) = refl
-ok_step (b ∷ l) zero = refl
-ok_step (b ∷ l) (suc k) = ok_step l k
-
--- by the code's test of the byte at k
-pub ok_case : (l : List ℕ) (k : ℕ) (t : Bool) → graphic (get_or l k 0) ≡ t → label_ok (drop k l) ≡ cond t (label_ok (drop (k + 1) l)) (all_zero (drop k l))
-ok_case l k t e = ok_step l k ∙ (λ i. cond (e i) (label_ok (drop (sym (add-one k) i) l)) (all_zero (drop k l)))
-
-pub ok_end : (l : List ℕ) (k : ℕ) → length l ≤ k → label_ok (drop k l) ≡ true
-unfolding label_ok
-ok_end l k h = ap label_ok (drop_of_length-le l h)
+use Rattle.std.proofs.lemmas.Option.{same_Some, none-some}
+use Rattle.std.specs.List.{prefix_len, position, position_or_len}
+use Rattle.std.specs.Prelude.{Some, None, Ok}
+use Rattle.std.proofs.lemmas.List.Sums.{prefix_len-le-length}
+use Rattle.lists.proofs.Tests.{Reads, pass, fail, ltb_reads}
+use Rattle.label.specs.Labels.{label_part, graphic, padded, given, label_of, judged, refused_label, held_answer, held_label, all_zero, label_ok}
+use Rattle.label.specs.declared.Label.{Label}
 
 -- a label is no longer than the bytes that hold it
 pub label_short : (bs : List ℕ) → length (label_part bs) ≤ length bs
 unfolding label_part
-label_short [] = omega arith
-label_short (b ∷ bs) = go (eqb b 0) (label_short bs)
+label_short bs = simp length-take (omega arith)
+
+-- what stands behind the bytes that a label may have is zeros
+pub behind : (bs : List ℕ) → all_zero (drop (prefix_len graphic bs) bs) ≡ label_ok bs
+unfolding label_ok
+behind [] = refl
+behind (b ∷ bs) = go (graphic b) (behind bs)
   where
-    go : (t : Bool) → length (take_while (λ c. not (eqb c 0)) bs) ≤ length bs → length (cond (not t) (b ∷ take_while (λ c. not (eqb c 0)) bs) []) ≤ suc (length bs)
-    go true h = omega arith
-    go false h = omega arith
+    go : (t : Bool) → all_zero (drop (prefix_len graphic bs) bs) ≡ label_ok bs → all_zero (drop (cond t (1 + prefix_len graphic bs) 0) (b ∷ bs)) ≡ cond t (label_ok bs) (all_zero (b ∷ bs))
+    go true e = simp one-add e
+    go false e = refl
+
+-- ---- the leading part
+cut : (bs : List ℕ) → label_part bs ≡ take (position_or_len (λ b. eqb b 0) bs) bs
+unfolding label_part
+cut bs = refl
+
+pub to_first_zero : (bs : List ℕ) (n : ℕ) → Some n ≡ position (λ b. eqb b 0) bs → take n bs ≡ label_part bs
+to_first_zero bs n e = go (ltb_reads (position_or_len (λ b. eqb b 0) bs) (length bs)) e
+  where
+    go : {t : Bool} → Reads (position_or_len (λ b. eqb b 0) bs < length bs) t → Some n ≡ cond t (Some (position_or_len (λ b. eqb b 0) bs)) None → take n bs ≡ label_part bs
+    go (pass l) e = ap (λ k. take k bs) (same_Some n (position_or_len (λ b. eqb b 0) bs) e) ∙ sym (cut bs)
+    go (fail f) e = absurd (none-some n (sym e))
+
+pub no_zero : (bs : List ℕ) → None ≡ position (λ b. eqb b 0) bs → bs ≡ label_part bs
+no_zero bs e = go (ltb_reads (position_or_len (λ b. eqb b 0) bs) (length bs)) e
+  where
+    go : {t : Bool} → Reads (position_or_len (λ b. eqb b 0) bs < length bs) t → None ≡ cond t (Some (position_or_len (λ b. eqb b 0) bs)) None → bs ≡ label_part bs
+    go (pass l) e = absurd (none-some (position_or_len (λ b. eqb b 0) bs) e)
+    go (fail f) e = sym (take_all (position_or_len (λ b. eqb b 0) bs) bs (omega (arith, f))) ∙ sym (cut bs)
+
+-- k bytes, all of them or n, with zeros behind
+pub filled : (n k : ℕ) (s : List ℕ) → k ≤ length s → k ≤ n → (k < n → length s ≤ k) → take k s ++ drop k (padded n []) ≡ padded n s
+unfolding padded
+filled n zero [] f g h = refl
+filled zero zero (b ∷ s) f g h = refl
+filled (suc n) zero (b ∷ s) f g h = absurd (let k = h (omega arith) in let z : ⊥ = omega arith in z)
+filled n (suc k) [] f g h = absurd (let z : ⊥ = omega arith in z)
+filled zero (suc k) s f g h = absurd (let z : ⊥ = omega arith in z)
+filled (suc n) (suc k) (b ∷ s) f g h = ap {B = List ℕ} (λ r. b ∷ r) (filled n k s (le_of_suc-le-suc f) (le_of_suc-le-suc g) (λ l. le_of_suc-le-suc (h (omega arith))))
+
+-- ---- the ways out of `held_label`
+module _ (l : Label) where
+  way : (t : Bool) → (leb l.length 16 && list_all graphic (given l)) ≡ t → judged t (given l) ≡ held_label l
+  unfolding held_label
+  way t e = sym (λ i. judged (e i) (given l))
+
+  pub too_long : 16 < l.length → refused_label 5 ≡ held_label l
+  too_long h = way false (λ i. lt-leb l.length 16 h i && list_all graphic (given l))
+
+  module _ (h : l.length ≤ 16) where
+    pub another_byte : false ≡ list_all graphic (given l) → refused_label 5 ≡ held_label l
+    another_byte e = way false (λ i. le-leb l.length 16 h i && sym e i)
+
+    pub accepted : (r : Label) → true ≡ list_all graphic (given l) → r ≡ label_of (given l) → held_answer (Ok r.bytes) ≡ held_label l
+    unfolding label_of
+    accepted r e f = (λ i. held_answer (Ok (f i).bytes)) ∙ way true (λ i. le-leb l.length 16 h i && sym e i)

@@ -1,8 +1,9 @@
 -- Labels: as a caller gives them, as rows hold them, and as they come back.
-use Rattle.std.specs.Prelude.{ℕ, zero, suc, Bool, true, false, not, ◌&&◌, cond, List, [], ◌∷◌, leb, eqb, length, take}
-use Rattle.std.specs.List.{list_all}
+use Rattle.std.specs.Prelude.{ℕ, zero, suc, Bool, true, false, not, ◌&&◌, cond, List, [], ◌∷◌, leb, eqb, length, take, Result}
+use Rattle.std.specs.List.{list_all, take_while}
 use Rattle.label.specs.declared.Label.{Label}
-use Rattle.label.specs.declared.Held.{Held}
+use Rattle.refusal.specs.declared.Refusal.{Refusal}
+use Rattle.refusal.specs.Numbers.{answered}
 
 -- "each 0x21 to 0x7E"
 abbrev pub graphic : ℕ → Bool
@@ -22,10 +23,23 @@ given l = take l.length l.bytes
 unfoldable pub label_of : List ℕ → Label
 label_of s = record { bytes = padded 16 s; length = length s }
 
+-- the reply to a label that is given: a number, and the bytes that rows hold
+pub record Held : Type 0 where
+  pub reply : ℕ
+  pub bytes : List ℕ
+
 -- "Label: 0 to 16 bytes, each 0x21 to 0x7E, held in 16 bytes with zeros behind." "5: label too long or with another byte"
 abbrev pub judged : Bool → List ℕ → Held
 judged true bs = record { reply = 0; bytes = padded 16 bs }
 judged false bs = record { reply = 5; bytes = padded 16 [] }
+
+-- a refusal and zeros
+abbrev pub refused_label : ℕ → Held
+refused_label r = record { reply = r; bytes = padded 16 [] }
+
+-- each case of what `held_label` answers
+abbrev pub held_answer : Result (List ℕ) Refusal → Held
+held_answer r = answered (λ bs. record { reply = 0; bytes = bs }) refused_label r
 
 -- the label as rows hold it, or 5
 unfoldable pub held_label : Label → Held
@@ -41,11 +55,6 @@ all_zero bs = list_all (λ b. eqb b 0) bs
 unfoldable pub label_ok : List ℕ → Bool
 label_ok [] = true
 label_ok (b ∷ bs) = cond (graphic b) (label_ok bs) (all_zero (b ∷ bs))
-
--- the leading elements that pass the test
-abbrev pub take_while : (ℕ → Bool) → List ℕ → List ℕ
-take_while p [] = []
-take_while p (b ∷ bs) = cond (p b) (b ∷ take_while p bs) []
 
 -- "The label comes back as the part before the first zero byte, or all the lent bytes if there is none."
 unfoldable pub label_part : List ℕ → List ℕ

@@ -1,128 +1,94 @@
 // Labels: as a caller gives them, as rows hold them, and as they come back.
 #![tactic(auto)]
 
-ghost use Rattle.std.specs.Prelude.{◌≡◌, drop};
-ghost use Rattle.label.specs.Labels.{graphic, label_of, held_label, label_part, label_ok, all_zero};
+ghost use Rattle.std.specs.List.{list_all, position, prefix_len};
+ghost use Rattle.std.specs.Prelude.{◌≡◌, ◌==◌, drop};
+ghost use Rattle.label.specs.Labels.{graphic, label_of, held_answer, held_label, label_part, label_ok, all_zero};
+
+use refusal::Refusal;
 
 // A label as a caller gives it: its length, which may be too great, and its first 16 bytes. Bytes behind the length say nothing.
+// It is no slice: panel_board prints what becomes of bytes behind the length, which no slice has.
 #[derive(Clone, Copy)]
 pub struct Label {
     pub bytes: [u8; 16],
     pub length: usize,
 }
 
-// A label as rows hold it, with zeros behind; or the reply 5 and zeros.
-#[derive(Clone, Copy)]
-pub struct Held {
-    pub reply: u8,
-    pub bytes: [u8; 16],
-}
-
-const REFUSED: Held = Held {
-    reply: 5,
-    bytes: [0u8; 16],
-};
-
-// Whether a label may have the byte.
-fn is_graphic(b: u8) -> bool
-    ensures { result ≡ graphic b }
-{
-    (0x21 <= b) & (b <= 0x7e)
-}
-
 // The label that a slice of any length gives.
 pub fn label_of(s: &[u8]) -> Label
     ensures { result ≡ label_of s.now }
 {
+    let n = s.len().min(16);
     let mut bytes = [0u8; 16];
-    let mut i = 0;
-    while i < 16 {
-        if s.len() <= i {
-            return Label {
-                bytes,
-                length: s.len(),
-            };
-        }
-        bytes[i] = s[i];
-        i += 1;
-    }
+    bytes[..n].copy_from_slice(&s[..n]);
     Label {
         bytes,
         length: s.len(),
     }
 }
 
-// The label as rows hold it, or the refusal: too long, or with another byte than 0x21 to 0x7E.
-#[tactic(auto, using(crate::proofs::Filling::too_long), unfolding(crate::specs::Labels::padded))]
-pub fn held_label(l: Label) -> Held
-    ensures { result ≡ held_label l }
+// Whether a label may have all the bytes.
+fn all_graphic(bytes: &[u8]) -> bool
+    ensures { result ≡ list_all graphic bytes.now }
 {
-    let given = l.bytes;
-    let length = l.length;
-    if 16 < length {
-        return REFUSED;
+    bytes.iter().all(|b| b.is_ascii_graphic())
+}
+
+// The label as rows hold it, with zeros behind, or the refusal: too long, or with another byte than 0x21 to 0x7E.
+#[tactic(auto, using(crate::proofs::Labels::too_long, crate::proofs::Labels::another_byte, crate::proofs::Labels::accepted))]
+pub fn held_label(l: Label) -> Result<[u8; 16], Refusal>
+    ensures { held_answer result ≡ held_label l }
+{
+    if 16 < l.length {
+        return Err(Refusal::BadLabel);
     }
-    let mut bytes = [0u8; 16];
-    let mut i = 0;
-    while i < length {
-        let b = given[i];
-        if is_graphic(b) {
-            bytes[i] = b;
-            i += 1;
-        } else {
-            return REFUSED;
-        }
+    let given = &l.bytes[..l.length];
+    if !all_graphic(given) {
+        return Err(Refusal::BadLabel);
     }
-    Held { reply: 0, bytes }
+    Ok(label_of(given).bytes)
+}
+
+// The place of the first zero byte.
+fn first_zero(bytes: &[u8]) -> Option<usize>
+    ensures { result ≡ position (λ b. b == 0) bytes.now }
+{
+    bytes.iter().position(|b| *b == 0)
 }
 
 // The part of a label's bytes before the first zero, or all.
-#[tactic(auto, using(crate::proofs::Labels::leading))]
+#[tactic(auto, using(crate::proofs::Labels::to_first_zero, crate::proofs::Labels::no_zero))]
 pub fn label_part(bytes: &[u8]) -> &[u8]
     ensures { result.now ≡ label_part bytes.now }
 {
-    let mut i = 0;
-    while i < bytes.len() {
-        if bytes[i] == 0 {
-            return &bytes[..i];
-        }
-        i += 1;
+    match first_zero(bytes) {
+        Some(end) => &bytes[..end],
+        None => bytes,
     }
-    &bytes[..i]
 }
 
-// Whether the bytes from i on are all zero.
-pub fn zeros_from(bytes: &[u8], i: usize) -> bool
-    ensures { result ≡ all_zero (drop i bytes.now) }
+// Whether the bytes are all zero.
+pub fn all_zero(bytes: &[u8]) -> bool
+    ensures { result ≡ all_zero bytes.now }
 {
-    let mut k = i;
-    while k < bytes.len() {
-        if bytes[k] != 0 {
-            return false;
-        }
-        k += 1;
-    }
-    true
+    bytes.iter().all(|b| *b == 0)
 }
 
-// Whether bytes are a label: some from 0x21 to 0x7E, and then zeros.
-fn bytes_ok(bytes: &[u8]) -> bool
-    ensures { result ≡ label_ok bytes.now }
+// Whether all bytes are zero behind the first ones, which a label may have.
+fn zeros_behind(bytes: &[u8]) -> bool
+    ensures { result ≡ all_zero (drop (prefix_len graphic bytes.now) bytes.now) }
 {
-    let mut i = 0;
-    while i < bytes.len() {
-        if is_graphic(bytes[i]) {
-            i += 1;
-        } else {
-            return zeros_from(bytes, i);
-        }
-    }
-    true
+    bytes
+        .iter()
+        .skip_while(|b| b.is_ascii_graphic())
+        .all(|b| *b == 0)
 }
 
-// Whether 16 bytes are a label.
+// Whether 16 bytes are a label: some from 0x21 to 0x7E, and then zeros.
+#[tactic(auto, using(crate::proofs::Labels::behind))]
 pub fn label_ok(bytes: [u8; 16]) -> bool
     ensures { result ≡ label_ok bytes }
 {
-    bytes_ok(&bytes)
+    zeros_behind(&bytes)
 }
