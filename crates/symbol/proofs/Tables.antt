@@ -2,10 +2,11 @@
 use mathlib.Core.Path.{◌≡◌, refl, sym, ap, ◌∙◌}
 use Prim.Native.Nat.{ℕ, zero, suc, ◌+◌, ◌%◌, ◌≤◌, ◌<◌}
 use native.Mathlib.Omega.{arith}
+use native.Mathlib.Nat.{le_of_suc-le-suc}
 use native.Mathlib.Numerals.{add-one}
-use mathlib.Core.List.{List, [], ◌∷◌}
+use mathlib.Core.List.{List, [], ◌∷◌, ◌++◌}
 use lib.Dec.{T, leb, leb→le}
-use lib.ListN.{get_or, set}
+use lib.ListN.{length, get_or, set, take, drop}
 use Rattle.orientation.specs.Orientations.{eighth}
 use Rattle.orientation.specs.declared.RotMirror.{RotMirror}
 use Rattle.orientation.proofs.Eight.{below_8}
@@ -74,6 +75,27 @@ module _ (f : Point → Point) (d : Point) where
 
   pub again : (i : ℕ) (l : List Point) {out : List Point} {r : Point} → out ≡ map_first f i l → r ≡ f (get_or l i d) → set out i r ≡ map_first f (i + 1) l
   again i l e q = (λ j. set (e j) i (q j)) ∙ next i l ∙ (λ j. map_first f (sym (add-one i) j) l)
+
+  -- the next one is as it was
+  pub still : (i : ℕ) (l : List Point) → get_or (map_first f i l) i d ≡ get_or l i d
+  still zero l = refl
+  still (suc i) [] = refl
+  still (suc i) (p ∷ l) = still i l
+
+  -- mapped to the end, and further
+  pub all_mapped : (i n : ℕ) (l : List Point) → length (take n l) ≤ i → map_first f i (take n l) ≡ map_first f n (take n l)
+  all_mapped zero zero l h = refl
+  all_mapped (suc i) zero l h = refl
+  all_mapped zero (suc n) [] h = refl
+  all_mapped (suc i) (suc n) [] h = refl
+  all_mapped zero (suc n) (p ∷ l) h = absurd (let z : ⊥ = omega arith in z)
+  all_mapped (suc i) (suc n) (p ∷ l) h = ap {B = List Point} (λ r. f p ∷ r) (all_mapped i n l (le_of_suc-le-suc h))
+
+  -- those behind stay
+  pub joined : (n : ℕ) (l : List Point) → map_first f n (take n l) ++ drop n l ≡ map_first f n l
+  joined zero l = refl
+  joined (suc n) [] = refl
+  joined (suc n) (p ∷ l) = ap {B = List Point} (λ r. f p ∷ r) (joined n l)
 
 -- ---- the tables, mapped
 module _ (o : RotMirror) (x y : ℕ) where

@@ -2,27 +2,32 @@
 #![tactic(auto)]
 
 ghost use Rattle.std.specs.Prelude.{◌≡◌, ◌≤◌};
+ghost use Rattle.refusal.specs.Numbers.{reply_of};
 ghost use Rattle.orientation.specs.Orientations.{eighth};
 ghost use Rattle.symbol.specs.Symbols.{Positioned, Placeable, known_symbol, moved_of, pad_block, bounds_at, touches_of};
 ghost use Rattle.symbol.specs.Replies.{held_reply};
 ghost use Rattle.symbol.specs.Answers.{pads_reply_of, aabb_of};
 ghost use Rattle.symbol.specs.Steps.{offset_of, along_of, map_first, reaching_of, Near, Mapping, Reaching};
 
+use edge::is_position;
+use refusal::Refusal;
+
 // A point as rows hold it: each coordinate and 6,000 more. A row of zeros is no point.
-#[derive(Clone, Copy)]
+#[derive(Clone, Copy, PartialEq, Eq)]
 pub struct Point {
     pub x: u16,
     pub y: u16,
 }
 
-// The pads of a symbol, with zeros behind the count.
+// The pads of a symbol, with zeros behind the count. No slice: document 01 has "a block of three points with a count".
 #[derive(Clone, Copy)]
 pub struct PadBlock {
     pub points: [Point; 3],
     pub count: usize,
 }
 
-// The reply to a call for pads: 0 and the pads, or the refusal and zeros.
+// The reply to a call for pads: 0 and the pads, or the refusal and zeros. No `Result`, which has no count beside a refusal for the edit
+// pads_refused_with_a_count.
 #[derive(Clone, Copy)]
 pub struct PadsReply {
     pub reply: u8,
@@ -36,7 +41,8 @@ pub struct Bounds {
     pub high: Point,
 }
 
-// The reply to a call for a box: 0 and the box, or the refusal and zeros.
+// The reply to a call for a box: 0 and the box, or the refusal and zeros. No `Result`, which has no number beside a refusal for the edit
+// aabb_refused_with_a_number.
 #[derive(Clone, Copy)]
 pub struct BoundsReply {
     pub reply: u8,
@@ -78,10 +84,7 @@ fn along(back: bool, d: u16, p: u16) -> u16
     requires { (d ≤ 400) × ((200 ≤ p) × (p ≤ 11800)) }
     ensures { result ≡ along_of back d p }
 {
-    if back {
-        return p + 200 - d;
-    }
-    p + d - 200
+    if back { p + 200 - d } else { p + d - 200 }
 }
 
 // A point of a symbol, each number given as 200 more, turned by the orientation numbered n and moved to the position (x, y).
@@ -109,19 +112,19 @@ pub fn is_known(kind: u8, n: u8) -> bool
     (kind <= 2) & (n < 8)
 }
 
-// 4 for an unknown kind or orientation, 1 for a position outside, else 0.
-fn refusal(kind: u8, n: u8, x: u16, y: u16) -> u8
-    ensures { result ≡ held_reply kind n x y }
+// 4 for an unknown kind or orientation, then 1 for a position outside. Two wrong answers that this rules out: 1 for an unknown kind
+// (placeable_unknown_told_as_1), and nothing refused of a position outside (placeable_anywhere).
+#[tactic(auto, using(crate::proofs::Symbols::unknown, crate::proofs::Symbols::outside, crate::proofs::Symbols::placed))]
+pub fn placeable(kind: u8, n: u8, x: u16, y: u16) -> Result<(), Refusal>
+    ensures { reply_of result ≡ held_reply kind n x y }
 {
-    if is_known(kind, n) {
-        if edge::is_position(x) & edge::is_position(y) {
-            0
-        } else {
-            1
-        }
-    } else {
-        4
+    if !is_known(kind, n) {
+        return Err(Refusal::UnknownSymbol);
     }
+    if !(is_position(x) & is_position(y)) {
+        return Err(Refusal::CoordinateOutside);
+    }
+    Ok(())
 }
 
 // The first count points, mapped through orientation and position; those behind stay.
@@ -130,11 +133,8 @@ fn mapped(points: [Point; 3], count: usize, n: u8, x: u16, y: u16) -> [Point; 3]
     ensures { result ≡ map_first (λ q. moved_of (eighth n) x y (offset_of q)) count points }
 {
     let mut out = points;
-    let mut i = 0;
-    while i < count {
-        let q = points[i];
-        out[i] = moved(n, q, x, y);
-        i += 1;
+    for q in &mut out[..count] {
+        *q = moved(n, *q, x, y);
     }
     out
 }
@@ -144,10 +144,7 @@ pub fn pads_at(kind: u8, n: u8, x: u16, y: u16) -> PadBlock
     requires { Placeable kind n x y }
     ensures { result ≡ pad_block kind (eighth n) x y }
 {
-    let k = kind as usize;
-    let p = PADS[k];
-    let points = p.points;
-    let count = p.count;
+    let PadBlock { points, count } = PADS[kind as usize];
     PadBlock {
         points: mapped(points, count, n, x, y),
         count,
@@ -155,20 +152,22 @@ pub fn pads_at(kind: u8, n: u8, x: u16, y: u16) -> PadBlock
 }
 
 // The pads of a component: 0 and the block of points, or the refusal and zeros.
+#[tactic(auto, using(crate::proofs::Symbols::pads_given, crate::proofs::Symbols::pads_refused))]
 pub fn pads(kind: u8, n: u8, x: u16, y: u16) -> PadsReply
     ensures { result ≡ pads_reply_of kind n x y }
 {
-    let reply = refusal(kind, n, x, y);
-    if reply != 0 {
-        let none = PadBlock {
-            points: [UNUSED, UNUSED, UNUSED],
-            count: 0,
-        };
-        return PadsReply { reply, pads: none };
-    }
-    PadsReply {
-        reply: 0,
-        pads: pads_at(kind, n, x, y),
+    match placeable(kind, n, x, y) {
+        Ok(()) => PadsReply {
+            reply: 0,
+            pads: pads_at(kind, n, x, y),
+        },
+        Err(r) => PadsReply {
+            reply: u8::from(r),
+            pads: PadBlock {
+                points: [UNUSED; 3],
+                count: 0,
+            },
+        },
     }
 }
 
@@ -193,39 +192,32 @@ pub fn bounds_at(kind: u8, n: u8, x: u16, y: u16) -> Bounds
     requires { Placeable kind n x y }
     ensures { result ≡ bounds_at kind (eighth n) x y }
 {
-    let k = kind as usize;
-    let depth = DEPTHS[k];
-    let rights = n % 4;
-    if rights == 0 {
-        return reaching(x, y, 50, 100, 50, depth);
+    let depth = DEPTHS[kind as usize];
+    match n % 4 {
+        0 => reaching(x, y, 50, 100, 50, depth),
+        1 => reaching(x, y, depth, 50, 100, 50),
+        2 => reaching(x, y, 50, depth, 50, 100),
+        _ => reaching(x, y, 100, 50, depth, 50),
     }
-    if rights == 1 {
-        return reaching(x, y, depth, 50, 100, 50);
-    }
-    if rights == 2 {
-        return reaching(x, y, 50, depth, 50, 100);
-    }
-    reaching(x, y, 100, 50, depth, 50)
 }
 
 // The box of a component: 0 and its corners, or the refusal and zeros.
+#[tactic(auto, using(crate::proofs::Symbols::box_given, crate::proofs::Symbols::box_refused))]
 pub fn aabb(kind: u8, n: u8, x: u16, y: u16) -> BoundsReply
     ensures { result ≡ aabb_of kind n x y }
 {
-    let reply = refusal(kind, n, x, y);
-    if reply != 0 {
-        let none = Bounds {
-            low: UNUSED,
-            high: UNUSED,
-        };
-        return BoundsReply {
-            reply,
-            bounds: none,
-        };
-    }
-    BoundsReply {
-        reply: 0,
-        bounds: bounds_at(kind, n, x, y),
+    match placeable(kind, n, x, y) {
+        Ok(()) => BoundsReply {
+            reply: 0,
+            bounds: bounds_at(kind, n, x, y),
+        },
+        Err(r) => BoundsReply {
+            reply: u8::from(r),
+            bounds: Bounds {
+                low: UNUSED,
+                high: UNUSED,
+            },
+        },
     }
 }
 

@@ -1,15 +1,9 @@
--- `symbol::aabb` meets its contract: the refusal, or the box of a component that may be placed.
-use mathlib.Core.Path.{sym, ◌∙◌}
-use Rattle.symbol.proofs.Symbols.{placeable, box_refused, box_given}
+-- `symbol::aabb` meets its contract: what is not refused may be placed.
+use Rattle.symbol.proofs.Symbols.{placeable, box_refused}
 use Rattle.symbol.proofs.aabb.Goals as goal
 
-pub returns-then-reply-ne0 : goal.returns-then-reply-ne0
-returns-then-reply-ne0 c = let s = c.args in box_refused s.kind s.n s.x s.y c.refusal-reply.result c.refusal-reply.ensures c.if-reply-ne0.true
-
 pub bounds_at-requires : goal.bounds_at-requires
-bounds_at-requires c = let s = c.args in placeable s.kind s.n s.x s.y (sym c.refusal-reply.ensures ∙ c.if-reply-ne0.false)
+bounds_at-requires c = let s = c.args in placeable s.kind s.n s.x s.y c.in-Ok.ensures
 
-pub returns : goal.returns
-returns c =
-    let s = c.args in
-    box_given s.kind s.n s.x s.y c.bounds_at.result (sym c.refusal-reply.ensures ∙ c.if-reply-ne0.false) c.bounds_at.ensures
+pub returns-in-Err : goal.returns-in-Err
+returns-in-Err c = let s = c.args in box_refused s.kind s.n s.x s.y c.in-Err.r _ c.from.ensures c.in-Err.ensures

@@ -1,29 +1,35 @@
--- `symbol::mapped` meets its contract: the loop has mapped the first i points.
-use borrow.Author.Rules.{rules}
-use mathlib.Core.Path.{◌≡◌, refl, ◌∙◌}
+-- `symbol::mapped` meets its contract: the loop has mapped the first points, and the next one is as it was.
+use mathlib.Core.Path.{◌≡◌, sym, subst, ap, ◌∙◌}
+use mathlib.Core.List.{List, ◌++◌}
 use native.Mathlib.Omega.{arith}
+use Prim.Native.Nat.{ℕ}
+use lib.ListN.{length, get_or, take, drop, length-take}
+use lib.Seq.{get_or-take, take_all}
 use Rattle.orientation.specs.Orientations.{eighth}
 use Rattle.symbol.specs.Symbols.{moved_of, unused}
-use Rattle.symbol.specs.Steps.{offset_of, map_first}
+use Rattle.symbol.specs.Steps.{offset_of, map_first, Near}
 use Rattle.symbol.specs.declared.Point.{Point}
-use Rattle.symbol.proofs.Tables.{again}
+use Rattle.symbol.proofs.Tables.{again, still, joined, all_mapped}
 use Rattle.symbol.proofs.mapped.Goals as goal
 
-pub loop-i-init : goal.loop-i-init
-loop-i-init c = (search rules, refl)
-
 pub moved-requires : goal.moved-requires
-moved-requires c = let l = c.before.before in (l.before.requires.sound, l.before.requires.near l.loop-i.i)
+moved-requires c =
+    let s = c.args in
+    let l = c.loop-q in
+    let put : Point → Point = λ q. moved_of (eighth s.n) s.x s.y (offset_of q) in
+    let e : get_or l.q-items l.q-index unused ≡ get_or s.points l.q-index unused = (λ i. get_or (l.invariant i) l.q-index unused) ∙ still put unused l.q-index (take s.count s.points) ∙ get_or-take s.count s.points l.q-index unused (let t = length-take s.count s.points in omega (arith, t)) in
+    (c.requires.sound, subst Near (sym e) (c.requires.near l.q-index))
 
-pub loop-i-preserved : goal.loop-i-preserved
-loop-i-preserved c =
-    let l = c.before.before.before in
-    let s = l.before.args in
-    (omega arith, again (λ (q : Point). moved_of (eighth s.n) s.x s.y (offset_of q)) unused l.loop-i.i s.points l.loop-i.invariant.1 c.moved.ensures)
+pub loop-q-preserved : goal.loop-q-preserved
+loop-q-preserved c =
+    let s = c.args in
+    let l = c.loop-q in
+    let put : Point → Point = λ q. moved_of (eighth s.n) s.x s.y (offset_of q) in
+    again put unused l.q-index (take s.count s.points) l.invariant (c.moved.ensures ∙ ap put ((λ i. get_or (l.invariant i) l.q-index unused) ∙ still put unused l.q-index (take s.count s.points)))
 
 pub returns : goal.returns
 returns c =
-    let l = c.before in
-    let s = l.before.args in
-    let e : l.loop-i.i ≡ s.count = omega arith in
-    l.loop-i.invariant.1 ∙ (λ j. map_first (λ (q : Point). moved_of (eighth s.n) s.x s.y (offset_of q)) (e j) s.points)
+    let s = c.args in
+    let l = c.loop-q in
+    let put : Point → Point = λ q. moved_of (eighth s.n) s.x s.y (offset_of q) in
+    (λ i. (l.invariant ∙ all_mapped put unused l.q-index s.count s.points c.loop-q-test.false) i ++ drop s.count s.points) ∙ joined put unused s.count s.points

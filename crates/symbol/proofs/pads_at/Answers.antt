@@ -4,7 +4,7 @@ use Rattle.symbol.proofs.Tables.{mapping, pads_made}
 use Rattle.symbol.proofs.pads_at.Goals as goal
 
 pub mapped-requires : goal.mapped-requires
-mapped-requires c = let s = c.before.before in mapping s.args.kind s.args.n s.args.x s.args.y s.requires.of_kind s.requires.sound
+mapped-requires c = let s = c.args in mapping s.kind s.n s.x s.y c.requires.of_kind c.requires.sound
 
 pub returns : goal.returns
-returns c = let s = c.before.before.before in pads_made (eighth s.args.n) s.args.x s.args.y s.args.kind s.requires.of_kind c.mapped.ensures
+returns c = let s = c.args in pads_made (eighth s.n) s.x s.y s.kind c.requires.of_kind c.mapped.ensures
