@@ -2,9 +2,10 @@
 #![tactic(auto)]
 
 ghost use Rattle.std.specs.Prelude.{◌≡◌};
-ghost use Rattle.component.specs.Answers.{component_pads_of, component_box_of, held_of, shown_of};
+ghost use Rattle.component.specs.Answers.{pads_told, component_pads_of, box_told, component_box_of, held_of, shown_of};
 
-use symbol::Point;
+use refusal::Refusal;
+use symbol::{Point, bounds_at, pads_at, placeable};
 
 // A point by its coordinates.
 #[derive(Clone, Copy)]
@@ -13,18 +14,16 @@ pub struct Position {
     pub y: i32,
 }
 
-// The pads of a component by their coordinates: three points with their count, zeros behind it; a refusal has zeros for every number but the reply.
+// The pads of a component by their coordinates, with zeros behind the count. No slice: document 01 has "a block of three points with a count".
 #[derive(Clone, Copy)]
-pub struct PadsAnswer {
-    pub reply: u8,
+pub struct Pads {
     pub points: [Position; 3],
     pub count: usize,
 }
 
-// The box of a component by its coordinates; a refusal has zeros for every number but the reply.
+// The box of a component by the coordinates of its corners.
 #[derive(Clone, Copy)]
-pub struct BoxAnswer {
-    pub reply: u8,
+pub struct Corners {
     pub low: Position,
     pub high: Position,
 }
@@ -33,8 +32,7 @@ pub struct BoxAnswer {
 fn held(x: i32) -> u16
     ensures { result ≡ held_of x }
 {
-    let p = edge::held_position(x);
-    p.at
+    edge::held_position(x).unwrap_or(0)
 }
 
 // The coordinates of a point that is used, else zeros.
@@ -52,34 +50,34 @@ fn shown(p: Point, used: bool) -> Position
 }
 
 // The pads of a component at (x, y), by their coordinates.
-pub fn component_pads(kind: u8, orientation: u8, x: i32, y: i32) -> PadsAnswer
-    ensures { result ≡ component_pads_of kind orientation x y }
+#[tactic(auto, using(crate::proofs::Answers::pads_refused))]
+pub fn component_pads(kind: u8, orientation: u8, x: i32, y: i32) -> Result<Pads, Refusal>
+    ensures { pads_told result ≡ component_pads_of kind orientation x y }
 {
-    let r = symbol::pads(kind, orientation, held(x), held(y));
-    let reply = r.reply;
-    let b = r.pads;
-    let ps = b.points;
+    let at_x = held(x);
+    let at_y = held(y);
+    placeable(kind, orientation, at_x, at_y)?;
+    let b = pads_at(kind, orientation, at_x, at_y);
+    let points = b.points;
     let count = b.count;
-    let first = shown(ps[0], 0 < count);
-    let second = shown(ps[1], 1 < count);
-    let third = shown(ps[2], 2 < count);
-    PadsAnswer {
-        reply,
+    let first = shown(points[0], 0 < count);
+    let second = shown(points[1], 1 < count);
+    let third = shown(points[2], 2 < count);
+    Ok(Pads {
         points: [first, second, third],
         count,
-    }
+    })
 }
 
 // The box of a component at (x, y), by its coordinates.
-pub fn component_box(kind: u8, orientation: u8, x: i32, y: i32) -> BoxAnswer
-    ensures { result ≡ component_box_of kind orientation x y }
+#[tactic(auto, using(crate::proofs::Answers::box_refused))]
+pub fn component_box(kind: u8, orientation: u8, x: i32, y: i32) -> Result<Corners, Refusal>
+    ensures { box_told result ≡ component_box_of kind orientation x y }
 {
-    let r = symbol::aabb(kind, orientation, held(x), held(y));
-    let reply = r.reply;
-    let b = r.bounds;
-    let l = b.low;
-    let h = b.high;
-    let low = shown(l, reply == 0);
-    let high = shown(h, reply == 0);
-    BoxAnswer { reply, low, high }
+    let (at_x, at_y) = (held(x), held(y));
+    placeable(kind, orientation, at_x, at_y)?;
+    let b = bounds_at(kind, orientation, at_x, at_y);
+    let low = shown(b.low, true);
+    let high = shown(b.high, true);
+    Ok(Corners { low, high })
 }

@@ -1,8 +1,8 @@
 // Prints the turns, boxes and pads of all kinds and orientations at a few positions, and refusals; held to what the Rust prints.
 #![tactic(auto)]
 
-use component::{BoxAnswer, PadsAnswer, Position};
-use orientation::Turned;
+use component::{Corners, Pads, Position};
+use refusal::Refusal;
 use std::io;
 
 // A space and a number.
@@ -12,11 +12,9 @@ fn put_number(rt: &impl Print, n: u16) -> io::Result<()> {
 
 // A space and a coordinate; one outside the range of wire ends as *.
 fn put_coordinate(rt: &impl Print, x: i32) -> io::Result<()> {
-    let p = edge::held_coordinate(x);
-    if !p.within {
+    let Some(n) = edge::held_coordinate(x) else {
         return print!(rt; " *");
-    }
-    let n = p.at;
+    };
     if n < 6000 {
         let below = 6000 - n;
         print!(rt; " -{below}")
@@ -31,12 +29,16 @@ fn put_point(rt: &impl Print, p: Position) -> io::Result<()> {
 }
 
 // A space and the number of what a turn gives.
-fn put_turned(rt: &impl Print, t: Turned) -> io::Result<()> {
-    if t.reply == 0 {
-        put_number(rt, t.turn as u16)
-    } else {
-        print!(rt; " *")
+fn put_turned(rt: &impl Print, t: Result<u8, Refusal>) -> io::Result<()> {
+    match t {
+        Ok(n) => put_number(rt, n as u16),
+        Err(_) => print!(rt; " *"),
     }
+}
+
+// A space and the number of a refusal.
+fn put_refusal(rt: &impl Print, r: Refusal) -> io::Result<()> {
+    put_number(rt, u8::from(r) as u16)
 }
 
 fn put_turns(rt: &impl Print, orient: u8) -> io::Result<()> {
@@ -59,32 +61,28 @@ fn put_asked(rt: &impl Print, kind: u8, orient: u8, x: i32, y: i32) -> io::Resul
     print!(rt; ":")
 }
 
-fn put_box(rt: &impl Print, b: BoxAnswer) -> io::Result<()> {
-    if b.reply == 0 {
-        put_point(rt, b.low)?;
-        put_point(rt, b.high)?;
-    } else {
-        put_number(rt, b.reply as u16)?;
+fn put_box(rt: &impl Print, b: Result<Corners, Refusal>) -> io::Result<()> {
+    match b {
+        Ok(b) => {
+            put_point(rt, b.low)?;
+            put_point(rt, b.high)?;
+        }
+        Err(r) => put_refusal(rt, r)?,
     }
     println!(rt; "")
 }
 
-fn put_pads(rt: &impl Print, p: PadsAnswer) -> io::Result<()> {
-    let points = p.points;
-    if p.reply == 0 {
-        let count = p.count;
-        print!(rt; " {count}")?;
-        if 0 < p.count {
-            put_point(rt, points[0])?;
+fn put_pads(rt: &impl Print, p: Result<Pads, Refusal>) -> io::Result<()> {
+    match p {
+        Ok(pads) => {
+            let points = pads.points;
+            let count = pads.count;
+            print!(rt; " {count}")?;
+            for p in points.iter().take(count) {
+                put_point(rt, *p)?;
+            }
         }
-        if 1 < p.count {
-            put_point(rt, points[1])?;
-        }
-        if 2 < p.count {
-            put_point(rt, points[2])?;
-        }
-    } else {
-        put_number(rt, p.reply as u16)?;
+        Err(r) => put_refusal(rt, r)?,
     }
     println!(rt; "")
 }
