@@ -1,5 +1,5 @@
 -- The tests of coordinates, and positions in floats, as the machine hands them over: as bits, which come out as they went in.
-use mathlib.Core.Path.{◌≡◌, sym, ap, ◌∙◌, subst}
+use mathlib.Core.Path.{◌≡◌, refl, sym, ap, ◌∙◌, subst}
 use Prim.Native.Nat.{ℕ, ◌≤◌, ◌^◌}
 use native.Mathlib.Omega.{arith}
 use mathlib.Core.Bool.{Bool, true, ◌&&◌}
@@ -12,8 +12,8 @@ use mir.Val.{SFits, to_z, of_z}
 use mir.Facts.{to_z-of_z}
 use borrow.Author.Tests.{leb-true}
 use Rattle.lists.proofs.Tests.{both}
-use Rattle.edge.specs.Coordinates.{ranged, biased_within}
-use Rattle.edge.specs.declared.Found.{Found}
+use Rattle.edge.specs.Coordinates.{Found, found_in, ranged, biased_within}
+use Rattle.std.specs.Prelude.{Option, Some, None, is_some}
 use Rattle.draw.specs.Transforms.{float_position}
 use Rattle.draw.specs.declared.Vector2.{Vector2}
 
@@ -25,9 +25,13 @@ as_it_was {z} f = to_z-of_z {w = w32} {z = z} f
 
 -- ---- what `held_coordinate` and `held_position` tell is the test
 
-pub position_test : (limit : ℕ) {z : ℤ} {p : Found} → SFits w32 z → p ≡ biased_within limit (handed z) → p.within ≡ ranged limit z
+pub position_test : (limit : ℕ) {z : ℤ} (r : Option ℕ) → SFits w32 z → found_in r ≡ biased_within limit (handed z) → is_some r ≡ ranged limit z
 unfolding biased_within
-position_test limit f e = ap (λ (p : Found). p.within) (e ∙ ap (biased_within limit) (as_it_was f))
+position_test limit r f e = told r ∙ ap (λ (p : Found). p.within) (e ∙ ap (biased_within limit) (as_it_was f))
+  where
+    told : (r : Option ℕ) → is_some r ≡ (found_in r).within
+    told (Some n) = refl
+    told None = refl
 
 -- ---- a test r of a coordinate z that is handed over
 

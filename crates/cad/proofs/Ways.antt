@@ -7,9 +7,11 @@ use lib.Signed.{lt_z}
 use lib.Ieee.{binary32, of_bits, of_int}
 use mir.Syntax.{w32}
 use mir.Val.{SFits, to_z, of_z}
-use Rattle.label.specs.Labels.{held_label}
+use Rattle.label.specs.Labels.{held_label, held_answer}
 use Rattle.label.specs.declared.Label.{Label}
-use Rattle.label.specs.declared.Held.{Held}
+use Rattle.refusal.specs.Numbers.{number_of}
+use Rattle.refusal.specs.declared.Refusal.{Refusal}
+use Rattle.std.specs.Prelude.{Err}
 use Rattle.edge.specs.Coordinates.{ranged}
 use Rattle.symbol.specs.Symbols.{known_symbol}
 use Rattle.draw.specs.Symbols.{whole}
@@ -30,10 +32,10 @@ over z = to_z w32 (of_z w32 z)
 abbrev position : ℤ → ℤ → Vector2
 position z w = float_position (over z) (over w)
 
-pub label_refused : (kind o : ℕ) (x y : ℤ) (label : Label) (i : ℕ) (a b : Bool) {k p q : Bool} {h : Held} → k ≡ known_symbol kind o → k ≡ true
+pub label_refused : (kind o : ℕ) (x y : ℤ) (label : Label) (i : ℕ) (a b : Bool) (r : Refusal) {k p q : Bool} → k ≡ known_symbol kind o → k ≡ true
     → SFits w32 x → SFits w32 y → p ≡ ranged 5800 (over x) → q ≡ ranged 5800 (over y) → (p && q) ≡ true
-    → h ≡ held_label label → (h.reply ≡ 0 → ⊥) → refused_shape 5 ≡ component_shape kind o x y label i a b
-label_refused kind o x y label i a b K t f g e d u H r = mislabelled kind o label i a b K t (tested 5800 f e) (tested 5800 g d) u H r
+    → held_answer (Err r) ≡ held_label label → refused_shape (number_of r) ≡ component_shape kind o x y label i a b
+label_refused kind o x y label i a b r K t f g e d u H = mislabelled kind o label i a b K t (tested 5800 f e) (tested 5800 g d) u r H
 
 pub end_small : {line start end : ℤ} {l s e : Bool} → SFits w32 line → SFits w32 start → SFits w32 end
     → l ≡ ranged 6000 (over line) → s ≡ ranged 6000 (over start) → e ≡ ranged 6000 (over end) → (l && (s && e)) ≡ true → Small line × Small end

@@ -1,12 +1,12 @@
 -- A shape at its place in a table of the code, and in the list of the definition.
 use mathlib.Core.Path.{◌≡◌, refl, sym, ap, ◌∙◌}
-use Prim.Native.Nat.{ℕ, zero, suc, ◌≤◌, ◌<◌}
-use native.Mathlib.Omega.{arith}
+use Prim.Native.Nat.{ℕ, zero, suc}
 use mathlib.Core.Bool.{Bool}
 use mathlib.Core.List.{List, [], ◌∷◌, ◌++◌}
-use lib.ListN.{length, get_or}
+use lib.ListN.{length}
+use Rattle.std.specs.Prelude.{slice_get}
 use Rattle.draw.specs.declared.Draw.{Draw}
-use Rattle.draw.specs.Answers.{Answer, shape_is, no_shape, asked}
+use Rattle.draw.specs.Answers.{Answer, shape_is, chosen, asked}
 use Rattle.draw.specs.Symbols.{power_draws, contact_static, coil_static, coil_draws, draws_of}
 
 -- "Power has 3, Contact 7, Coil 7"
@@ -14,23 +14,25 @@ pub count_is : (a b : Bool) → (length (draws_of 0 a b) ≡ 3) × ((length (dra
 unfolding draws_of power_draws contact_static coil_static
 count_is a b = (refl, (refl, refl))
 
--- among the first, at the end, and past the last
-pub first : (xs ys : List Draw) (i : ℕ) (d : Draw) → i < length xs → shape_is (get_or xs i d) ≡ asked i (xs ++ ys)
+-- what stands at a place of a list
+pub at_place : (ds : List Draw) (i : ℕ) → chosen (slice_get ds i) ≡ asked i ds
 unfolding asked
-first [] ys i d h = absurd (omega arith)
-first (x ∷ xs) ys zero d h = refl
-first (x ∷ xs) ys (suc i) d h = first xs ys i d (omega arith)
+at_place [] i = refl
+at_place (d ∷ ds) zero = refl
+at_place (d ∷ ds) (suc i) = at_place ds i
 
-pub end : (xs : List Draw) {d e : Draw} → d ≡ e → shape_is d ≡ asked (length xs) (xs ++ (e ∷ []))
+-- and of one that has one more at its end
+pub at_end : (ds : List Draw) (d : Draw) → shape_is d ≡ asked (length ds) (ds ++ (d ∷ []))
 unfolding asked
-end [] p = ap shape_is p
-end (x ∷ xs) p = end xs p
+at_end [] d = refl
+at_end (x ∷ ds) d = at_end ds d
 
-pub past : (xs : List Draw) (i : ℕ) → length xs ≤ i → no_shape ≡ asked i xs
+pub not_at_end : (ds : List Draw) (d : Draw) (i : ℕ) → (i ≡ length ds → ⊥) → chosen (slice_get ds i) ≡ asked i (ds ++ (d ∷ []))
 unfolding asked
-past [] i h = refl
-past (x ∷ xs) zero h = absurd (omega arith)
-past (x ∷ xs) (suc i) h = past xs i (omega arith)
+not_at_end [] d zero f = absurd (f refl)
+not_at_end [] d (suc i) f = refl
+not_at_end (x ∷ ds) d zero f = refl
+not_at_end (x ∷ ds) d (suc i) f = not_at_end ds d i (λ e. f (ap suc e))
 
 -- the shapes of a coil are those of kind 2
 pub of_coil : {k : ℕ} (i : ℕ) (a b : Bool) {r : Answer} → r ≡ asked i (coil_draws a) → k ≡ 2 → r ≡ asked i (draws_of k a b)

@@ -1,11 +1,9 @@
 -- The answer to a call for a shape, as document 01 tells it: a number and values.
 -- "For an answer that is an enum, a definition provides this paper's number and values for each of the enum's cases. The promises use this
 -- definition."
-use Rattle.std.specs.Prelude.{ℕ, zero, suc, List, [], ◌∷◌, Float}
+use Rattle.std.specs.Prelude.{ℕ, zero, suc, List, [], ◌∷◌, Float, Option, Some, None}
 use Rattle.draw.specs.declared.Draw.{Draw}
 use Rattle.draw.specs.declared.Draw.TheVariants.{Line, Circle}
-use Rattle.draw.specs.declared.Choice.{Choice}
-use Rattle.draw.specs.declared.Choice.TheVariants.{Of, Nothing}
 
 -- the number of the reply, and its values
 pub record Answer : Type 0 where
@@ -26,9 +24,9 @@ abbrev pub no_shape : Answer
 no_shape = record { number = 0; values = [] }
 
 -- each case of the enum
-abbrev pub chosen : Choice → Answer
-chosen (Of d) = shape_is d
-chosen Nothing = no_shape
+abbrev pub chosen : Option Draw → Answer
+chosen (Some d) = shape_is d
+chosen None = no_shape
 
 -- "A shape is asked for by its place in that order; past the last the reply is "no shape""
 unfoldable pub asked : ℕ → List Draw → Answer

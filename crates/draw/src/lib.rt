@@ -27,13 +27,6 @@ pub enum Draw {
     Circle(Vector2, f32, f32),
 }
 
-// The shape asked for, or no shape.
-#[derive(Clone, Copy)]
-pub enum Choice {
-    Of(Draw),
-    Nothing,
-}
-
 // One coordinate: a * x + b * y, then + the position t, each operation rounded.
 fn drawn(a: i8, b: i8, x: f32, y: f32, t: f32) -> f32
     ensures { result ≡ add binary32 (turned a b x y) t }

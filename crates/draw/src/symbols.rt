@@ -1,9 +1,9 @@
 // The shapes of the three symbols, in the order of symbol.rs. A number built with a square root has the bits that a run of the Rust gives it.
-ghost use Rattle.std.specs.Prelude.{◌≡◌};
+ghost use Rattle.std.specs.Prelude.{◌≡◌, slice_get};
 ghost use Rattle.draw.specs.Answers.{chosen, asked};
 ghost use Rattle.draw.specs.Symbols.{power_draws, moving_contact, contact_draws, inner_circle, coil_draws, draws_of};
 
-use super::{Choice, Draw, Vector2};
+use super::{Draw, Vector2};
 
 // 1 / sqrt(3) * 50, and 1 / sqrt(2) * 50 + 100.
 const WING: f32 = f32::from_bits(0x41e6f0ab);
@@ -94,14 +94,18 @@ const COIL: [Draw; 6] = [
     ),
 ];
 
+// Shape i of a table, or no shape.
+fn at_place(table: &[Draw], i: usize) -> Option<Draw>
+    ensures { result ≡ slice_get table.now i }
+{
+    table.get(i).copied()
+}
+
 // Shape i of a power symbol, or no shape.
-fn power(i: usize) -> Choice
+fn power(i: usize) -> Option<Draw>
     ensures { chosen result ≡ asked i power_draws }
 {
-    if i < 3 {
-        return Choice::Of(POWER[i]);
-    }
-    Choice::Nothing
+    at_place(&POWER, i)
 }
 
 // A contact's moving line: in the middle where A and B are alike, else toward the closed one.
@@ -124,16 +128,13 @@ fn moving_contact(a: bool, b: bool) -> Draw
 }
 
 // Shape i of a contact, or no shape.
-fn contact(i: usize, a: bool, b: bool) -> Choice
+fn contact(i: usize, a: bool, b: bool) -> Option<Draw>
     ensures { chosen result ≡ asked i (contact_draws a b) }
 {
-    if i < 6 {
-        return Choice::Of(CONTACT[i]);
+    match i {
+        6 => Some(moving_contact(a, b)),
+        _ => at_place(&CONTACT, i),
     }
-    if i == 6 {
-        return Choice::Of(moving_contact(a, b));
-    }
-    Choice::Nothing
 }
 
 // A coil's inner circle, by its state.
@@ -148,27 +149,24 @@ fn inner_circle(on: bool) -> Draw
 }
 
 // Shape i of a coil that is on or off, or no shape.
-fn coil(i: usize, on: bool) -> Choice
+fn coil(i: usize, on: bool) -> Option<Draw>
     ensures { chosen result ≡ asked i (coil_draws on) }
 {
-    if i < 6 {
-        return Choice::Of(COIL[i]);
+    match i {
+        6 => Some(inner_circle(on)),
+        _ => at_place(&COIL, i),
     }
-    if i == 6 {
-        return Choice::Of(inner_circle(on));
-    }
-    Choice::Nothing
 }
 
 // Shape i of a kind, 0 Power, 1 Contact, 2 Coil; past the last, and of another kind, no shape. a and b are a contact's A and B, and a is a coil's state.
 #[tactic(auto, using(crate::proofs::Tables::of_coil))]
-pub fn shape(kind: u8, i: usize, a: bool, b: bool) -> Choice
+pub fn shape(kind: u8, i: usize, a: bool, b: bool) -> Option<Draw>
     ensures { chosen result ≡ asked i (draws_of kind a b) }
 {
     match kind {
         0 => power(i),
         1 => contact(i, a, b),
         2 => coil(i, a),
-        _ => Choice::Nothing,
+        _ => None,
     }
 }

@@ -4,9 +4,9 @@
 
 ghost use Rattle.std.specs.Prelude.{◌<◌};
 
-use cad::Shape;
 use draw::Draw;
-use label::Label;
+use label::label_of;
+use refusal::Refusal;
 use std::io;
 
 // A float's bits. A drawn number is no NaN, whose bits nothing tells.
@@ -42,14 +42,11 @@ fn down(p: u32) -> u16
 // ---- shapes at a position
 
 // Shape n % 8 of a kind in orientation n / 32, its state n / 8 % 4.
-fn symbol(kind: u8, n: usize, x: u16, y: u16) -> Shape
+fn symbol(kind: u8, n: usize, x: u16, y: u16) -> Result<Option<Draw>, Refusal>
     requires { n < 256 }
 {
     let o = (n / 32) as u8;
-    let label = Label {
-        bytes: [0u8; 16],
-        length: 0,
-    };
+    let label = label_of(b"");
     let state = n / 8 % 4;
     let px = edge::coordinate(x);
     let py = edge::coordinate(y);
@@ -66,19 +63,17 @@ fn symbol(kind: u8, n: usize, x: u16, y: u16) -> Shape
 }
 
 // Three wires: to the right edge, from the top edge, and of no length.
-fn wire(n: usize, x: u16, y: u16) -> Shape {
+fn wire(n: usize, x: u16, y: u16) -> Result<Option<Draw>, Refusal> {
     let px = edge::coordinate(x);
     let py = edge::coordinate(y);
-    if n == 0 {
-        return cad::wire(false, py, px, 6000);
+    match n {
+        0 => cad::wire(false, py, px, 6000),
+        1 => cad::wire(true, px, -6000, py),
+        _ => cad::wire(true, px, py, py),
     }
-    if n == 1 {
-        return cad::wire(true, px, -6000, py);
-    }
-    cad::wire(true, px, py, py)
 }
 
-fn joint(n: usize, x: u16, y: u16) -> Shape
+fn joint(n: usize, x: u16, y: u16) -> Result<Option<Draw>, Refusal>
     requires { n < 5 }
 {
     let px = edge::coordinate(x);
@@ -95,11 +90,11 @@ fn mix(h: u64, v: u32) -> u64
     (h * 16777619 + v as u64 + 1) % 4294967291
 }
 
-fn mix_shape(h: u64, s: Shape) -> u64
+fn mix_shape(h: u64, s: Result<Option<Draw>, Refusal>) -> u64
     requires { h < 4294967291 }
     ensures { result < 4294967291 }
 {
-    let Shape::Drawn(d) = s else {
+    let Ok(Some(d)) = s else {
         return mix(h, 3);
     };
     match d {
@@ -117,26 +112,26 @@ fn mix_shape(h: u64, s: Shape) -> u64
 
 fn symbols_sum(kind: u8, x: u16, y: u16) -> u64 {
     let mut h: u64 = 7;
-    let mut n = 0;
-    while n < 256 {
+    for n in 0..256 {
         h = mix_shape(h, symbol(kind, n, x, y));
-        n += 1;
     }
     h
 }
 
 fn wires_sum(x: u16, y: u16) -> u64 {
-    let a = mix_shape(7, wire(0, x, y));
-    let b = mix_shape(a, wire(1, x, y));
-    mix_shape(b, wire(2, x, y))
+    let mut h: u64 = 7;
+    for n in 0..3 {
+        h = mix_shape(h, wire(n, x, y));
+    }
+    h
 }
 
 fn joints_sum(x: u16, y: u16) -> u64 {
-    let a = mix_shape(7, joint(0, x, y));
-    let b = mix_shape(a, joint(1, x, y));
-    let c = mix_shape(b, joint(2, x, y));
-    let d = mix_shape(c, joint(3, x, y));
-    mix_shape(d, joint(4, x, y))
+    let mut h: u64 = 7;
+    for n in 0..5 {
+        h = mix_shape(h, joint(n, x, y));
+    }
+    h
 }
 
 // ---- printing
@@ -168,8 +163,8 @@ fn print_f32(rt: &impl Print, f: f32) -> io::Result<()> {
     print_word(rt, bits(f) as u64)
 }
 
-fn print_shape(rt: &impl Print, s: Shape) -> io::Result<()> {
-    let Shape::Drawn(d) = s else {
+fn print_shape(rt: &impl Print, s: Result<Option<Draw>, Refusal>) -> io::Result<()> {
+    let Ok(Some(d)) = s else {
         return println!(rt; " N");
     };
     match d {
