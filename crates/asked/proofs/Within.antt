@@ -18,10 +18,7 @@ use Rattle.label.specs.Labels.{held_label}
 use Rattle.label.proofs.Accepted.{accepted_holds}
 use Rattle.sheet.specs.Parts.{PartFits}
 use Rattle.sheet.proofs.Wiring.{Drawable}
-use Rattle.asked.specs.declared.AskedWire.{AskedWire}
-use Rattle.asked.specs.declared.AskedPart.{AskedPart}
-use Rattle.asked.specs.declared.AskedPointer.{AskedPointer}
-use Rattle.asked.specs.Asked.{wire_at, no_wire, asked_wire, component_at, no_part, asked_part, point_at, no_pointer, asked_pointer}
+use Rattle.asked.specs.Asked.{AskedWire, wire_at, no_wire, asked_wire, AskedPart, component_at, no_part, asked_part, AskedPointer, point_at, no_pointer, asked_pointer}
 
 -- ---- rows' numbers
 

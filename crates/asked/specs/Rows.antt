@@ -1,11 +1,13 @@
--- Below the calls: "Pointer size: 0 to 1,000.": what `edge` finds of one, as a flag and the number.
-use Rattle.std.specs.Prelude.{true, false}
-use Rattle.edge.specs.Coordinates.{found}
-use Rattle.edge.specs.declared.Found.{Found}
-use Rattle.edge.specs.declared.PointerSize.{PointerSize}
-use Rattle.edge.specs.declared.PointerSize.TheVariants.{Is, Wrong}
+-- Below the calls: a number that is asked for, as rows hold it, or its refusal.
+use Rattle.std.specs.Prelude.{ℕ, ℤ, cond, eqb, Result, Ok, Err}
+use Rattle.edge.specs.Coordinates.{ranged, biased, to_ℕ, size_of}
+use Rattle.refusal.specs.declared.Refusal.{Refusal}
+use Rattle.refusal.specs.declared.Refusal.TheVariants.{CoordinateOutside, SizeOutside}
 
--- the size, or none and 0
-abbrev pub size_row : PointerSize → Found
-size_row (Is n) = found true n
-size_row Wrong = found false 0
+-- a coordinate from -limit to limit
+abbrev pub row_of : ℕ → ℤ → Result ℕ Refusal
+row_of limit z = cond (ranged limit z) (Ok (biased z)) (Err CoordinateOutside)
+
+-- "Pointer size: 0 to 1,000."
+abbrev pub size_row : ℤ → Result ℕ Refusal
+size_row z = cond (eqb (size_of z).reply 0) (Ok (to_ℕ z)) (Err SizeOutside)

@@ -1,9 +1,11 @@
--- The tests in document 01's order, by what was found of each coordinate.
-use mathlib.Core.Path.{◌∙◌}
-use Rattle.asked.proofs.Ranges.{in_range}
-use Rattle.asked.proofs.Asked.{far_wire}
+-- `asked::asked_wire` meets its contract: each coordinate is in its range, and the order of start and end decides.
+use Rattle.asked.proofs.Asked.{backward, wire_right}
 use Rattle.asked.proofs.asked_wire.Goals as goal
 
-pub returns-then-not-l-s : goal.returns-then-not-l-s
-returns-then-not-l-s c =
-    c.no_wire.ensures ∙ far_wire c.args.vertical _ _ _ (in_range _ c.ranges.line 6000 c.held_coordinate-l.ensures) (in_range _ c.ranges.start 6000 c.held_coordinate-s.ensures) (in_range _ c.ranges.end 6000 c.held_coordinate-e.ensures) c.if-not-l-s.true
+pub returns-then-start-end : goal.returns-then-start-end
+returns-then-start-end c =
+    wire_right c.args.vertical c.args.line c.args.start c.args.end c.ranges.line c.ranges.start c.ranges.end c.in_ok-l.ensures c.in_ok-s.ensures c.in_ok-e.ensures c.if-start-end.true
+
+pub returns-else-start-end : goal.returns-else-start-end
+returns-else-start-end c =
+    backward c.args.vertical c.args.line c.args.start c.args.end c.ranges.line c.ranges.start c.ranges.end c.in_ok-l.ensures c.in_ok-s.ensures c.in_ok-e.ensures c.if-start-end.false
