@@ -30,10 +30,14 @@ use Rattle.sheet.proofs.Totals.{joints_few}
 use Rattle.wires.specs.declared.Grown.{Grown}
 use Rattle.wires.specs.Tables.{Grows}
 use Rattle.joints.specs.Tables.{sheet_of}
-use Rattle.asked.specs.declared.AskedPointer.{AskedPointer}
-use Rattle.asked.specs.declared.AskedWire.{AskedWire}
+use Rattle.asked.specs.Asked.{AskedPointer}
+use Rattle.asked.specs.Asked.{AskedWire}
+use Rattle.std.specs.Prelude.{Result, Ok, Err}
+use Rattle.std.specs.Result.{result_unwrap_or}
+use Rattle.refusal.specs.declared.Refusal.{Refusal}
+use Rattle.sheet.specs.Drawings.{zero_component}
 use Rattle.net_numbers.specs.Netted.{net_numbers}
-use Rattle.asked.specs.Asked.{asked_wire, asked_part, asked_pointer}
+use Rattle.asked.specs.Asked.{asked_wire, part_told, asked_part, asked_pointer}
 use Rattle.bench_calls.specs.Numbered.{label}
 use Rattle.bench_calls.specs.Tables.{grown_rows, line_at, x_at, pointed_answer, laid_answer, inserted_answer, whole_answer, table_answer}
 
@@ -105,6 +109,11 @@ module _ (x y z : ℤ) (d : Drawing) {a : AskedWire} (q : a ≡ asked_wire false
   laid_rows h =
       ap (λ (b : AskedWire). grown_rows (lay_wire b.wire (lists_of d).wires (pads_of (lists_of d).parts))) q
       ∙ rw (eq-eqb (asked_wire false x y z).reply 0 (sym wire_reply ∙ h)) refl
+
+-- the row that is asked for, or zeros
+pub row_told : (r : Result Component Refusal) → result_unwrap_or r zero_component ≡ (part_told r).part
+row_told (Ok c) = refl
+row_told (Err r) = refl
 
 module _ (x y : ℤ) (d : Drawing) where
   pub inserted_full : 128 ≤ d.components.count → 0 ≡ inserted_answer x y d

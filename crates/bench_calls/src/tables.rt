@@ -108,10 +108,10 @@ fn pointed_answer(call: u8, d: Drawing, x: i32, y: i32, z: i32) -> u32
     requires { Lawful d }
     ensures { result ≡ pointed_answer call x y z d }
 {
-    let a = asked_pointer(x, y, z);
-    if a.reply != 0 {
-        return 0;
-    }
+    let a = match asked_pointer(x, y, z) {
+        Ok(a) => a,
+        Err(_) => return 0,
+    };
     let p = a.point;
     let ws = d.wires;
     let cs = d.components;
@@ -129,11 +129,10 @@ fn laid_answer(d: Drawing, x: i32, y: i32, z: i32) -> u32
     requires { Lawful d }
     ensures { result ≡ laid_answer x y z d }
 {
-    let a = asked_wire(false, x, y, z);
-    if a.reply != 0 {
-        return 0;
-    }
-    let n = a.wire;
+    let n = match asked_wire(false, x, y, z) {
+        Ok(n) => n,
+        Err(_) => return 0,
+    };
     let ws = d.wires;
     let cs = d.components;
     laid_rows(ws, cs, n)
@@ -145,8 +144,14 @@ fn inserted_answer(d: Drawing, x: i32, y: i32) -> u32
     ensures { result ≡ inserted_answer x y d }
 {
     let l = k_label();
-    let a = asked_part(1, 0, x, y, l);
-    let c = a.part;
+    let none = Component {
+        kind: 0,
+        orientation: 0,
+        x: 0,
+        y: 0,
+        label: [0; 16],
+    };
+    let c = asked_part(1, 0, x, y, l).unwrap_or(none);
     let cs = d.components;
     if cs.count >= 128 {
         return 0;

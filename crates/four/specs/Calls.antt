@@ -6,14 +6,14 @@ use Rattle.std.specs.List.{list_any}
 use Rattle.lists.specs.First.{first_row}
 use Rattle.edge.specs.Coordinates.{to_ℕ, biased, ranged, size_of}
 use Rattle.orientation.specs.declared.RotMirror.{RotMirror}
-use Rattle.orientation.specs.declared.FourNumbers.{FourNumbers}
+use Rattle.orientation.specs.Orientations.{FourNumbers}
 use Rattle.orientation.specs.Orientations.{known, four_are, no_four}
 use Rattle.label.specs.declared.Label.{Label}
 use Rattle.label.specs.Labels.{held_label}
 use Rattle.symbol.specs.declared.Point.{Point}
 use Rattle.symbol.specs.Symbols.{pads_at, low_at, high_at}
-use Rattle.component.specs.declared.PadsAnswer.{PadsAnswer}
-use Rattle.component.specs.declared.BoxAnswer.{BoxAnswer}
+use Rattle.component.specs.Answers.{PadsAnswer}
+use Rattle.component.specs.Answers.{BoxAnswer}
 use Rattle.component.specs.Answers.{position_of, answer, spanned, no_box}
 use Rattle.draw.specs.Answers.{Answer, asked}
 use Rattle.draw.specs.Symbols.{draws_of}

@@ -9,8 +9,8 @@
 use Rattle.std.specs.Prelude.{ℕ, Bool, cond, List, map, ◌++◌, ◌↔◌, ◌≡◌, eqb, ℤ, pos, drop}
 use Rattle.edge.specs.Coordinates.{to_ℕ}
 use Rattle.orientation.specs.declared.RotMirror.{RotMirror}
-use Rattle.orientation.specs.declared.Turned.{Turned}
-use Rattle.orientation.specs.declared.FourNumbers.{FourNumbers}
+use Rattle.orientation.specs.Orientations.{Turned}
+use Rattle.orientation.specs.Orientations.{FourNumbers}
 use Rattle.orientation.specs.Orientations.{eighth, number_of, zeros, rot_mirror, turned_by, rights, lefts, mirrors, right_of, left_of, mirror_of}
 use Rattle.label.specs.declared.Label.{Label}
 use Rattle.component.specs.Answers.{component_pads_of, component_box_of}

@@ -149,6 +149,14 @@ fn three_contacts(rt: &impl Print, o: u8) -> io::Result<()> {
     Ok(())
 }
 
+// The number of what a turn answers.
+fn put_turn(rt: &impl Print, t: Result<u8, Refusal>) -> io::Result<()> {
+    match t {
+        Ok(_) => put_count(rt, 0),
+        Err(r) => put_count(rt, u8::from(r) as u32),
+    }
+}
+
 // A component of a kind in an orientation, and the turns asked of that orientation: 4 where it is none.
 fn oriented(rt: &impl Print, name: &[u8], kind: u8, o: u8) -> io::Result<()> {
     put_told(
@@ -156,13 +164,10 @@ fn oriented(rt: &impl Print, name: &[u8], kind: u8, o: u8) -> io::Result<()> {
         name,
         add_component(empty(), kind, o, 0, 0, label_of(b"K1"), NINES),
     )?;
-    let r = orientation::rotate_r(o);
-    let l = orientation::rotate_l(o);
-    let m = orientation::mirror(o);
     put(rt, b"turns")?;
-    put_count(rt, r.reply as u32)?;
-    put_count(rt, l.reply as u32)?;
-    put_count(rt, m.reply as u32)?;
+    put_turn(rt, orientation::rotate_r(o))?;
+    put_turn(rt, orientation::rotate_l(o))?;
+    put_turn(rt, orientation::mirror(o))?;
     put(rt, b"\n")
 }
 

@@ -1,19 +1,21 @@
 // Shapes asked for that are refused, or that there are not: a component's 4, 1 or 5 before "no shape", a wire's 1 or 2, a joint's 1
 // "before its count is looked at". Drawn shapes are printed by `panel_shapes`.
-use crate::print::put;
-use cad::Shape;
+use crate::print::{put, put_count};
+use draw::Draw;
 use label::{Label, label_of};
+use refusal::Refusal;
 use std::io;
 
-fn put_shape(rt: &impl Print, asked: &[u8], s: Shape) -> io::Result<()> {
+fn put_shape(rt: &impl Print, asked: &[u8], s: Result<Option<Draw>, Refusal>) -> io::Result<()> {
     put(rt, asked)?;
     match s {
-        Shape::Drawn(_) => put(rt, b": drawn\n"),
-        Shape::NoShape => put(rt, b": no shape\n"),
-        Shape::Outside => put(rt, b": 1\n"),
-        Shape::Reversed => put(rt, b": 2\n"),
-        Shape::Unknown => put(rt, b": 4\n"),
-        Shape::Mislabelled => put(rt, b": 5\n"),
+        Ok(Some(_)) => put(rt, b": drawn\n"),
+        Ok(None) => put(rt, b": no shape\n"),
+        Err(r) => {
+            put(rt, b":")?;
+            put_count(rt, u8::from(r) as u32)?;
+            put(rt, b"\n")
+        }
     }
 }
 

@@ -10,9 +10,11 @@ use Rattle.lists.specs.Lists.{◌∈◌, insert}
 use Rattle.std.specs.List.{filter}
 use Rattle.lists.proofs.Lists.{keep_old, insert_in}
 use Rattle.lists.proofs.Tables.{row_in, holds_list}
-use Rattle.orientation.specs.declared.Turned.{Turned}
-use Rattle.orientation.specs.Orientations.{turn_by, turned_by}
-use Rattle.orientation.proofs.Turns.{turn_known}
+use Rattle.orientation.specs.Orientations.{turn_by, turn_answered, turned_by}
+use Rattle.orientation.proofs.Turns.{turns}
+use Rattle.refusal.specs.declared.Refusal.{Refusal}
+use Rattle.std.specs.Prelude.{Result, Ok, is_ok, IsOk}
+use Rattle.std.specs.Result.{result_unwrap_or}
 use Rattle.sheet.specs.declared.Component.{Component}
 use Rattle.sheet.specs.Tables.{Components}
 use Rattle.sheet.specs.Parts.{PartFits, ahead, reoriented}
@@ -23,9 +25,16 @@ use Rattle.parts.specs.Tables.{TabledParts, PartsFit}
 pub row_fits : {t : Components} {i : ℕ} (d : Component) → PartsFit t → length t.rows ≡ 128 → i < t.count → PartFits (get_or t.rows i d)
 row_fits {t} {i} d h e b = h.each (get_or t.rows i d) (row_in t.rows t.count i d b (omega (arith, h.room)))
 
--- a component with the orientation that a turn gives
-pub turned_part : (f : List ℕ) (c : Component) {t : Turned} {r : Component} → PartFits c → t ≡ turned_by f c.orientation → r ≡ reoriented (λ o. t.turn) c → r ≡ reoriented (turn_by f) c
-turned_part f c h e q = q ∙ ap (λ (t : Turned). reoriented (λ o. t.turn) c) (e ∙ turn_known f c.orientation h.orientation)
+-- a component with the orientation that a turn gives, which is no refusal
+module _ (f : List ℕ) (c : Component) (h : PartFits c) (t : Result ℕ Refusal) (e : turn_answered t ≡ turned_by f c.orientation) where
+  pub turned_ok : IsOk t
+  turned_ok = ap is_ok (turns f t h.orientation e)
+
+  pub turned_part : {n : ℕ} {r : Component} → t ≡ Ok n → r ≡ reoriented (λ o. n) c → r ≡ reoriented (turn_by f) c
+  turned_part {n} p q = q ∙ ap (λ (m : ℕ). reoriented (λ o. m) c) (same_Ok (sym p ∙ turns f t h.orientation e))
+    where
+      same_Ok : {m n : ℕ} → ◌≡◌ {A = Result ℕ Refusal} (Ok m) (Ok n) → m ≡ n
+      same_Ok p = ap (λ (r : Result ℕ Refusal). result_unwrap_or r 0) p
 
 -- ---- tables that the functions give still hold components that meet the limits
 

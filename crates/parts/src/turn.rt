@@ -24,8 +24,8 @@ pub fn turned_right(c: Component) -> Component
     requires { Parts.PartFits c }
     ensures { result ≡ Parts.turned_right c }
 {
-    let t = rotate_r(c.orientation);
-    reoriented(c, t.turn)
+    let n = rotate_r(c.orientation).unwrap();
+    reoriented(c, n)
 }
 
 // Mirrored in its place.
@@ -33,6 +33,6 @@ pub fn mirrored(c: Component) -> Component
     requires { Parts.PartFits c }
     ensures { result ≡ Parts.mirrored c }
 {
-    let t = mirror(c.orientation);
-    reoriented(c, t.turn)
+    let n = mirror(c.orientation).unwrap();
+    reoriented(c, n)
 }

@@ -1,7 +1,8 @@
 -- What is asked decides whether the edit is refused or made.
 use Prim.Native.Nat.{ℕ}
+use native.Mathlib.Omega.{arith}
 use mathlib.Core.Bool.{Bool, true, false, cond}
-use mathlib.Core.Path.{◌≡◌, refl, sym, subst, ◌∙◌}
+use mathlib.Core.Path.{◌≡◌, refl, sym, ap, subst, ◌∙◌}
 use borrow.Author.Tests.{eq-eqb, ne_eqb}
 use lib.IntN.{ℤ}
 use mir.Syntax.{w32}
@@ -9,6 +10,9 @@ use mir.Val.{SFits, to_z, of_z}
 use Rattle.std.specs.List.{list_any}
 use Rattle.lists.specs.First.{first_row}
 use Rattle.lists.proofs.Tests.{Reads, pass, fail, eqb_reads}
+use Rattle.refusal.specs.Numbers.{number_of}
+use Rattle.refusal.specs.declared.Refusal.{Refusal}
+use Rattle.refusal.proofs.Numbers.{refuses}
 use Rattle.edge.specs.Coordinates.{to_ℕ}
 use Rattle.symbol.specs.Replies.{wire_reply, pointer_reply, component_reply}
 use Rattle.label.specs.declared.Label.{Label}
@@ -18,9 +22,9 @@ use Rattle.sheet.specs.declared.Tally.{Tally}
 use Rattle.sheet.specs.Parts.{touches}
 use Rattle.sheet.specs.Drawings.{lists_of}
 use Rattle.sheet.specs.Edits.{Outcome, wire, place_one}
-use Rattle.asked.specs.declared.AskedWire.{AskedWire}
-use Rattle.asked.specs.declared.AskedPart.{AskedPart}
-use Rattle.asked.specs.declared.AskedPointer.{AskedPointer}
+use Rattle.asked.specs.Asked.{AskedWire}
+use Rattle.asked.specs.Asked.{AskedPart}
+use Rattle.asked.specs.Asked.{AskedPointer}
 use Rattle.asked.specs.Asked.{wire_at, no_wire, asked_wire, component_at, no_part, asked_part, point_at, no_pointer, asked_pointer}
 use Rattle.asked.proofs.Handed.{handed_two, handed_three}
 use Rattle.edits.specs.Making.{quiet}
@@ -94,11 +98,21 @@ pointer_decides d x y n t edit q = subst (λ (a : AskedPointer). Decides d t a.r
 
 -- ---- refusals, of numbers as `asked` gets them
 
-module _ (d : Drawing) (t : Tally) {r : Edited} where
-  pub wire_not_asked : (v : Bool) {l s e : ℤ} {a : AskedWire} → SFits w32 l → SFits w32 s → SFits w32 e
-      → a ≡ asked_wire v (to_z w32 (of_z w32 l)) (to_z w32 (of_z w32 s)) (to_z w32 (of_z w32 e)) → (a.reply ≡ 0 → ⊥) → r ≡ refused a.reply d t → r ≡ add_wire d v l s e t
-  wire_not_asked v {l} {s} {e} p q u f g h = h ∙ (wire_decides d v l s e t (f ∙ handed_three (asked_wire v) l s e p q u)).refuses g
+module _ (d : Drawing) (t : Tally) {r : Edited} (x : Refusal) {n : ℕ} (m : n ≡ number_of x) (h : r ≡ refused n d t) where
+  by_number : r ≡ refused (number_of x) d t
+  by_number = h ∙ ap (λ k. refused k d t) m
 
-  pub part_not_asked : (k o : ℕ) {x y : ℤ} (l : Label) {a : AskedPart} → SFits w32 x → SFits w32 y
-      → a ≡ asked_part k o (to_z w32 (of_z w32 x)) (to_z w32 (of_z w32 y)) l → (a.reply ≡ 0 → ⊥) → r ≡ refused a.reply d t → r ≡ add_component d k o x y l t
-  part_not_asked k o {x} {y} l p q f g h = h ∙ (part_decides d k o x y l t (f ∙ handed_two (λ x y. asked_part k o x y l) x y p q)).refuses g
+  refuses_it : number_of x ≡ 0 → ⊥
+  refuses_it e = let k = refuses x in omega arith
+
+  pub wire_not_asked : (v : Bool) {l s e : ℤ} → SFits w32 l → SFits w32 s → SFits w32 e
+      → no_wire (number_of x) ≡ asked_wire v (to_z w32 (of_z w32 l)) (to_z w32 (of_z w32 s)) (to_z w32 (of_z w32 e)) → r ≡ add_wire d v l s e t
+  wire_not_asked v {l} {s} {e} p q u f = by_number ∙ (wire_decides d v l s e t (f ∙ handed_three (asked_wire v) l s e p q u)).refuses refuses_it
+
+  pub part_not_asked : (k o : ℕ) {x' y : ℤ} (l : Label) → SFits w32 x' → SFits w32 y
+      → no_part (number_of x) ≡ asked_part k o (to_z w32 (of_z w32 x')) (to_z w32 (of_z w32 y)) l → r ≡ add_component d k o x' y l t
+  part_not_asked k o {x'} {y} l p q f = by_number ∙ (part_decides d k o x' y l t (f ∙ handed_two (λ x y. asked_part k o x y l) x' y p q)).refuses refuses_it
+
+  pub pointer_not_asked : {x' y z : ℤ} (edit : Point → ℕ → Outcome) → SFits w32 x' → SFits w32 y → SFits w32 z
+      → no_pointer (number_of x) ≡ asked_pointer (to_z w32 (of_z w32 x')) (to_z w32 (of_z w32 y)) (to_z w32 (of_z w32 z)) → r ≡ pointed d x' y z t edit
+  pointer_not_asked {x'} {y} {z} edit p q u f = by_number ∙ (pointer_decides d x' y z t edit (f ∙ handed_three asked_pointer x' y z p q u)).refuses refuses_it

@@ -21,7 +21,7 @@ use Rattle.sheet.specs.Edits.{place_one}
 use Rattle.sheet.proofs.Edits.{touched_reads, place_good, delete_good}
 use Rattle.sheet.proofs.Turn.{turn_right_good, mirror_good}
 use Rattle.joints.specs.Tables.{Sound}
-use Rattle.asked.specs.declared.AskedPointer.{AskedPointer}
+use Rattle.asked.specs.Asked.{AskedPointer}
 use Rattle.asked.proofs.Within.{Near}
 use Rattle.edits.specs.Making.{Pointed}
 use Rattle.redraw.specs.declared.pointer.Act.{Act}

@@ -13,7 +13,6 @@ use sheet::{Drawing, Tally};
 // "Place.", and for 6 the first row touched. Wrong answers that this rules out: a component acknowledged and not placed
 // (component_only_acknowledged), 7 for one whose box shares a point with a placed one (six_told_as_seven), row 1 for the first
 // (first_row_is_one).
-#[tactic(auto, using(crate::proofs::Asking::part_not_asked))]
 pub fn add_component_on(
     d: Drawing,
     kind: u8,
@@ -26,11 +25,10 @@ pub fn add_component_on(
     requires { Lawful d }
     ensures { result ≡ Calls.add_component d kind orientation x y label t }
 {
-    let a = asked_part(kind, orientation, x, y, label);
-    if a.reply != 0 {
-        return refused(a.reply, d, t);
-    }
-    let c = a.part;
+    let c = match asked_part(kind, orientation, x, y, label) {
+        Ok(c) => c,
+        Err(r) => return refused(u8::from(r), d, t),
+    };
     let ws = d.wires;
     let cs = d.components;
     let row = first_touched(cs, c);

@@ -38,14 +38,13 @@ fn act_on(d: Drawing, act: Act, x: i32, y: i32, size: i32, t: Tally) -> Edited
     requires { Lawful d }
     ensures { result ≡ Calls.pointed d x y size t (λ p n. Acts.acted act p n (lists_of d)) }
 {
-    let a = asked_pointer(x, y, size);
-    if a.reply != 0 {
-        return refused(a.reply, d, t);
-    }
-    let p = a.point;
+    let a = match asked_pointer(x, y, size) {
+        Ok(a) => a,
+        Err(r) => return refused(u8::from(r), d, t),
+    };
     let ws = d.wires;
     let cs = d.components;
-    let e = acted(act, ws, cs, p, a.size);
+    let e = acted(act, ws, cs, a.point, a.size);
     finished(d, t, e)
 }
 
