@@ -1,91 +1,39 @@
 // A label.
-ghost use Rattle.std.specs.Prelude.{◌≡◌, ◌≤◌, length, drop};
+ghost use Rattle.std.specs.Prelude.{◌≡◌, ◌≤◌, length, drop, IfOk};
 ghost use Rattle.label.specs.Labels.{padded};
-ghost use Rattle.groups.specs.Taken.{times};
+ghost use Rattle.groups.specs.Taken.{then, took};
+ghost use Rattle.groups.specs.Indexes.{taken_at};
 ghost use Rattle.saved.specs.Reading.{take_graphic, take_label};
-ghost use Rattle.file_rows.specs.Answers.{ReadAs};
 
-use crate::value::read_value;
-
-#[derive(Clone, Copy)]
-pub struct ByteRead {
-    pub reply: u8,
-    pub next: usize,
-    pub byte: u8,
-}
-
-#[derive(Clone, Copy)]
-pub struct LabelRead {
-    pub reply: u8,
-    pub next: usize,
-    pub bytes: [u8; 16],
-}
+use crate::rows::read_rows;
+use groups::read_in;
+use refusal::Refusal;
+use table::Table;
 
 // A byte that a label may have.
-fn read_graphic(bytes: &[u8], at: usize) -> ByteRead
-    ensures { ReadAs (take_graphic (drop at bytes.now)) bytes.now result.reply result.next (λ b. result.byte ≡ b) }
+#[tactic(auto, using(crate::proofs::Graphics::graphic_reads))]
+fn read_graphic(bytes: &[u8], at: usize) -> Result<(u8, usize), Refusal>
+    ensures is { taken_at bytes.now result ≡ take_graphic (drop at bytes.now) }
+    ensures inside { IfOk result (λ r. r.1 ≤ length bytes.now) }
 {
     if bytes.len() <= at {
-        return ByteRead {
-            reply: 12,
-            next: 0,
-            byte: 0,
-        };
+        return Err(Refusal::FileEnds);
     }
     let b = bytes[at];
     if (0x21 <= b) & (b <= 0x7e) {
-        return ByteRead {
-            reply: 0,
-            next: at + 1,
-            byte: b,
-        };
+        return Ok((b, at + 1));
     }
-    ByteRead {
-        reply: 13,
-        next: 0,
-        byte: 0,
-    }
+    Err(Refusal::FileWrong)
 }
 
-// n bytes that a label may have, with zeros behind.
-fn read_graphics(bytes: &[u8], at: usize, n: usize) -> LabelRead
-    requires { (at ≤ length bytes.now) × (n ≤ 16) }
-    ensures { ReadAs (times take_graphic n (drop at bytes.now)) bytes.now result.reply result.next (λ l. result.bytes ≡ padded 16 l) }
+// A label's length and its bytes, with zeros behind.
+pub(crate) fn read_label(bytes: &[u8], at: usize) -> Result<([u8; 16], usize), Refusal>
+    ensures is { taken_at bytes.now result ≡ then (take_label (drop at bytes.now)) (λ l. took (padded 16 l)) }
+    ensures inside { IfOk result (λ r. r.1 ≤ length bytes.now) }
 {
-    let mut label = [0u8; 16];
-    let mut next = at;
-    let mut i = 0;
-    while i < n {
-        let b = read_graphic(bytes, next);
-        if b.reply != 0 {
-            return LabelRead {
-                reply: b.reply,
-                next: 0,
-                bytes: label,
-            };
-        }
-        label[i] = b.byte;
-        next = b.next;
-        i += 1;
-    }
-    LabelRead {
-        reply: 0,
-        next,
-        bytes: label,
-    }
-}
-
-// A label's length and its bytes.
-pub(crate) fn read_label(bytes: &[u8], at: usize) -> LabelRead
-    ensures { ReadAs (take_label (drop at bytes.now)) bytes.now result.reply result.next (λ l. result.bytes ≡ padded 16 l) }
-{
-    let n = read_value(bytes, at, 0, 16);
-    if n.reply != 0 {
-        return LabelRead {
-            reply: n.reply,
-            next: 0,
-            bytes: [0u8; 16],
-        };
-    }
-    read_graphics(bytes, n.next, n.value as usize)
+    let (n, at) = read_in(bytes, at, 0, 16)?;
+    let mut label = Table::<u8, 16>::empty(0);
+    let next = read_rows(read_graphic, bytes, at, n as usize, &mut label)?;
+    let held = label.rows;
+    Ok((held, next))
 }

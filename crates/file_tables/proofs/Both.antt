@@ -1,28 +1,44 @@
--- What the tables hold, one direction behind the other.
-use mathlib.Core.Path.{◌≡◌, ap, ◌∙◌}
-use mathlib.Core.List.{List, [], ◌++◌}
-use Prim.Native.Nat.{ℕ}
-use Rattle.lists.proofs.Tables.{holds_list, holds_as, holds_self}
+-- A sheet read, part by part: a refusal of each part is one of the sheet.
+use mathlib.Core.Path.{◌≡◌, refl}
+use mathlib.Core.Bool.{true, false}
+use mathlib.Core.List.{List, ◌++◌}
+use Prim.Native.Nat.{ℕ, ◌-◌}
 use Rattle.sheet.specs.declared.Wire.{Wire}
 use Rattle.sheet.specs.declared.Component.{Component}
-use Rattle.sheet.specs.Tables.{Wires}
-use Rattle.sheet.specs.Tables.{Components}
-use Rattle.sheet.specs.Drawings.{wire_rows}
-use Rattle.wires.specs.Tables.{Tabled}
-use Rattle.parts.specs.Tables.{TabledParts}
-use Rattle.file_tables.specs.Tables.{Added, TabledAs}
+use Rattle.groups.specs.Taken.{took, refused, then, times}
+use Rattle.groups.specs.Groups.{take_in}
+use Rattle.saved.specs.Reading.{take_wire, take_part, take_sheet}
 
-module _ {t r : Wires} {n : ℕ} {hs : List Wire} (z : Tabled [] t) (a : Added t n r hs) where
-  -- the first rows of a table
-  pub first_table : Tabled hs r
-  first_table = holds_as (ap (λ l. l ++ hs) (holds_list z)) a.table
+module _ (s : List ℕ) where
+  pub no_level_count : {k : ℕ} → refused k ≡ take_in 0 512 s → take_sheet s ≡ refused k
+  unfolding take_sheet then
+  no_level_count q = rw (← q) refl
 
-  pub first_self : Tabled (wire_rows r) r
-  first_self = holds_self first_table
+  module _ {h : ℕ} {s1 : List ℕ} (e1 : took h s1 ≡ take_in 0 512 s) where
+    pub no_levels : {k : ℕ} → times (take_wire false) h s1 ≡ refused k → take_sheet s ≡ refused k
+    unfolding take_sheet then
+    no_levels q = rw (← e1, q) refl
 
-  pub first_count : r.count ≡ n
-  first_count = first_table.count_is ∙ a.many
+    module _ {hs : List Wire} {s2 : List ℕ} (e2 : times (take_wire false) h s1 ≡ took hs s2) where
+      pub no_upright_count : {k : ℕ} → refused k ≡ take_in 0 (512 - h) s2 → take_sheet s ≡ refused k
+      unfolding take_sheet then
+      no_upright_count q = rw (← e1, e2, ← q) refl
 
-  -- and those behind them
-  pub both_tables : {q : Wires} {m : ℕ} {vs : List Wire} {p : Components} {cs : List Component} → Added r m q vs → TabledParts cs p → TabledAs q p (record { wires = hs ++ vs; parts = cs })
-  both_tables {vs = vs} b c = record { wires = holds_as (ap (λ l. l ++ vs) (holds_list first_table)) b.table; parts = c }
+      module _ {v : ℕ} {s3 : List ℕ} (e3 : took v s3 ≡ take_in 0 (512 - h) s2) where
+        pub no_uprights : {k : ℕ} → times (take_wire true) v s3 ≡ refused k → take_sheet s ≡ refused k
+        unfolding take_sheet then
+        no_uprights q = rw (← e1, e2, ← e3, q) refl
+
+        module _ {vs : List Wire} {s4 : List ℕ} (e4 : times (take_wire true) v s3 ≡ took vs s4) where
+          pub no_part_count : {k : ℕ} → refused k ≡ take_in 0 128 s4 → take_sheet s ≡ refused k
+          unfolding take_sheet then
+          no_part_count q = rw (← e1, e2, ← e3, e4, ← q) refl
+
+          module _ {n : ℕ} {s5 : List ℕ} (e5 : took n s5 ≡ take_in 0 128 s4) where
+            pub no_parts_read : {k : ℕ} → times take_part n s5 ≡ refused k → take_sheet s ≡ refused k
+            unfolding take_sheet then
+            no_parts_read q = rw (← e1, e2, ← e3, e4, ← e5, q) refl
+
+            pub all_read : {cs : List Component} {s6 : List ℕ} → times take_part n s5 ≡ took cs s6 → take_sheet s ≡ took (record { wires = hs ++ vs; parts = cs }) s6
+            unfolding take_sheet then
+            all_read q = rw (← e1, e2, ← e3, e4, ← e5, q) refl

@@ -7,18 +7,14 @@ use native.Mathlib.Omega.{arith}
 use lib.ListN.{length, get_or, drop, drop_of_length-le}
 use lib.Seq.{drop-cons}
 use borrow.Author.Tests.{lt-ltb, le-ltb, le-leb, lt-leb, eq-eqb, ne_eqb}
-use Rattle.groups.specs.Taken.{Taken, took, refused, then, short}
+use Rattle.groups.specs.Taken.{took, refused, then, short}
 use Rattle.groups.specs.Groups.{above, later_groups, take_number}
-use Rattle.groups.proofs.Told.{Told, told, not}
-use Rattle.groups.proofs.Laws.{Low, most_three, later_low}
+use Rattle.groups.proofs.Told.{out}
+use Rattle.groups.proofs.Laws.{most_three, later_low}
 
 -- a later number is small
-small : {t : Taken ℕ} (k n : ℕ) (r : List ℕ) → Told (λ m rest. Low k m) t → took n r ≡ t → k ≤ 3 → n ≤ 33554431
-small k n r (told {a = m} l) e h = let v : n ≡ m = cc in omega (arith, l.low, most_three k h)
-small k n r (not f) e h = absurd (let z : ◌≡◌ {A = ℕ} 0 1 = cc in omega arith)
-
 pub is_small : (k n : ℕ) (r s : List ℕ) → took n r ≡ later_groups k s → k ≤ 3 → n ≤ 33554431
-is_small k n r s e h = small k n r (later_low k s) e h
+is_small k n r s e h = let l = out {a = n} {s = r} (later_low k s) (sym e) in omega (arith, l.low, most_three k h)
 
 -- ---- past the end
 

@@ -1,7 +1,9 @@
 -- What holds of a value that was read and of the bytes behind it; a refusal is 12, 13 or 14.
+use mathlib.Core.Path.{◌≡◌, subst}
 use mathlib.Core.Bool.{Bool}
 use mathlib.Core.List.{List}
 use Prim.Native.Nat.{ℕ}
+use native.Mathlib.Omega.{arith}
 use Rattle.lists.proofs.Tests.{Reads, pass, fail}
 use Rattle.groups.specs.Taken.{Taken, took, refused, then, if}
 
@@ -26,3 +28,8 @@ told_as (not r) g = not r
 pub told_if : {A P : Type 0} {Q : A → List ℕ → Type 0} {b : Bool} (a : A) (s : List ℕ) → Reads P b → (P → Q a s) → Told Q (if b a s)
 told_if a s (pass p) h = told (h p)
 told_if a s (fail f) h = not faulty
+
+-- what was read is told of
+pub out : {A : Type 0} {Q : A → List ℕ → Type 0} {t : Taken A} {a : A} {s : List ℕ} → Told Q t → t ≡ took a s → Q a s
+out {Q = Q} {a = a} {s = s} (told {a = b} {s = r} q) e = let x : b ≡ a = cc in let y : r ≡ s = cc in subst (λ u. Q a u) y (subst (λ u. Q u r) x q)
+out (not r) e = absurd (let z : ◌≡◌ {A = ℕ} 0 1 = cc in omega arith)

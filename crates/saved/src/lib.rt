@@ -4,6 +4,7 @@
 use sheet::Drawing;
 
 // A reply, and the drawing; the empty one with a refusal.
+// (No Result: `rows_handed_back` of `opening` tells a drawing beside a refusal, and P5 asks for the empty one there. The same holds of `Front`.)
 #[derive(Clone, Copy)]
 pub struct Opened {
     pub reply: u8,

@@ -5,7 +5,7 @@
 ghost use Rattle.std.specs.Prelude.{◌≡◌, [], ◌∷◌};
 ghost use Rattle.text.specs.Text.{Put, Room, decimal_of, signed_of};
 
-// A reply, and how many bytes of the lent buffer were written.
+// A reply, and how many bytes of the lent buffer were written. (No Result: `length_on_refusal` of `netlist` tells a length beside a refusal.)
 #[derive(Clone, Copy)]
 pub struct Written {
     pub reply: u8,

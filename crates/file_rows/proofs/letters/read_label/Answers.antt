@@ -1,22 +1,22 @@
 -- `read_label` meets its contract: the length, and as many bytes.
-use native.Mathlib.Omega.{arith}
-use mathlib.Core.Path.{◌≡◌, refl, subst}
-use lib.ListN.{drop}
-use Rattle.label.specs.Labels.{padded}
-use Rattle.groups.specs.Taken.{times}
-use Rattle.saved.specs.Reading.{take_graphic, take_label}
-use Rattle.file_rows.specs.Answers.{ReadAs}
-use Rattle.file_rows.proofs.Answers.{inside_of, then_bad, then_good}
-use Rattle.file_rows.proofs.Values.{value_below}
+use mathlib.Core.List.{[]}
+use Rattle.std.proofs.lemmas.Result.{err_from_is_err_and}
+use Rattle.table.proofs.Rows.{empty_holds}
+use Rattle.saved.specs.Reading.{take_graphic}
+use Rattle.file_rows.proofs.Labels.{no_length, no_label, label_read}
 use Rattle.file_rows.proofs.letters.read_label.Goals as goal
 
-pub returns-then-n-ne0 : goal.returns-then-n-ne0
-unfolding take_label
-returns-then-n-ne0 c = then_bad _ c.read_value-n.ensures c.if-n-ne0.true refl
+pub returns-in_err-n-clause-is : goal.returns-in_err-n-clause-is
+returns-in_err-n-clause-is c =
+    let p = err_from_is_err_and c.from_residual.result c.from_residual.ensures.1 in
+    rw (p.1, p.2) (no_length _ _ c.in_err-n.ensures.is)
 
-pub read_graphics-requires : goal.read_graphics-requires
-read_graphics-requires c = let h = value_below c.read_value-n.ensures c.if-n-ne0.false in (inside_of c.read_value-n.ensures c.if-n-ne0.false, omega (arith, h))
+pub returns-in_err-next-clause-is : goal.returns-in_err-next-clause-is
+returns-in_err-next-clause-is c =
+    let p = err_from_is_err_and c.from_residual-in_err-next.result c.from_residual-in_err-next.ensures.1 in
+    rw (p.1, p.2) (no_label _ c.in_ok-n.ensures.is (c.in_err-next.ensures.read take_graphic (λ p at r q. q) c.in_ok-n.ensures.inside 0 [] (empty_holds c.empty-label.ensures)))
 
 pub returns : goal.returns
-unfolding take_label
-returns c = then_good _ c.read_value-n.ensures c.if-n-ne0.false (λ n q. subst (λ k. ReadAs (times take_graphic k (drop c.read_value-n.result.next c.args.bytes.now)) c.args.bytes.now c.read_graphics.result.reply c.read_graphics.result.next (λ l. c.read_graphics.result.bytes ≡ padded 16 l)) q.is c.read_graphics.ensures)
+returns c =
+    let got = c.in_ok-next.ensures.read take_graphic (λ p at r q. q) c.in_ok-n.ensures.inside 0 [] (empty_holds c.empty-label.ensures) in
+    record { is = label_read _ c.in_ok-n.ensures.is got; inside = got.inside }
