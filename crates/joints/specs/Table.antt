@@ -1,4 +1,4 @@
--- Keys of points, as a table: as many as a drawing has wire ends and pads at most.
+-- Below the calls: keys of points, as a table: as many as a drawing has wire ends and pads at most.
 use Rattle.std.specs.Prelude.{ℕ}
 use Rattle.table.specs.declared.Table.{Table}
 

@@ -1,4 +1,4 @@
--- Wires and pads by their joints, as tables.
+-- Below the calls: wires and pads by their joints, as tables.
 use Rattle.std.specs.Prelude.{ℕ}
 use Rattle.table.specs.declared.Table.{Table}
 use Rattle.nets.specs.declared.Link.{Link}

@@ -1,4 +1,4 @@
--- Tables: what one holds, and one row more.
+-- Below the calls: tables: what one holds, and one row more.
 use Rattle.std.specs.Prelude.{ℕ, ◌+◌, List, length, take, set}
 use Rattle.lists.specs.Tables.{pad}
 use Rattle.table.specs.declared.Table.{Table}
