@@ -12,3 +12,5 @@ pub mod Somes
 pub mod Finding
 pub mod First
 pub mod Mapped
+pub mod Sorted
+pub mod Pairing

@@ -1,5 +1,9 @@
 -- Points are told by their coordinates; the row order of points.
-use Prim.Native.Nat.{◌<◌}
+use Prim.Native.Nat.{ℕ, ◌<◌}
+use lib.Dec.{ltb, eqb}
+use mathlib.Core.Bool.{Bool, true, false, cond, ◌&&◌, ◌||◌}
+use Rattle.std.proofs.Common.{Some, Less, Equal, Greater}
+use Rattle.std.specs.Ordering.{partial_lt, partial_ordering_then, nat_cmp}
 use mathlib.Core.List.Memᴰ.{cast as ∈-cast}
 use mathlib.Core.List.{List}
 use mathlib.Core.Path.{◌≡◌, refl, sym, ap}
@@ -66,3 +70,15 @@ rise_back p q f n = ⊎_elim (λ (r : Rise p q). absurd (f r)) (⊎_elim (λ (e 
 -- rows that rise each to the next rise each to every later one
 pub rise_chain : {A : Type 0} (f : A → Point) {xs : List A} → Rows (λ b c. Rise (f b) (f c)) xs ↔ Adjacent (λ b c. Rise (f b) (f c)) xs
 rise_chain f = (rows_chain, chain_rows (λ a b c. rise_trans))
+
+-- compared as pairs, by y and then by x
+pub rises_by_pairs : (p q : Point) → partial_lt {X = ℕ × ℕ} (λ a b. partial_ordering_then (Some (nat_cmp a.0 b.0)) (Some (nat_cmp a.1 b.1))) (p.y, p.x) (q.y, q.x) ≡ rises p q
+unfolding rises
+rises_by_pairs p q = go (ltb p.y q.y) (eqb p.y q.y) (ltb p.x q.x) (eqb p.x q.x)
+  where
+    go : (a b c d : Bool) → partial_lt {X = ℕ × ℕ} (λ x y. partial_ordering_then (Some (cond a Less (cond b Equal Greater))) (Some (cond c Less (cond d Equal Greater)))) (p.y, p.x) (q.y, q.x) ≡ (a || (b && c))
+    go true b c d = refl
+    go false true true d = refl
+    go false true false true = refl
+    go false true false false = refl
+    go false false c d = refl

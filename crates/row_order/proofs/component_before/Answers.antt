@@ -1,8 +1,8 @@
--- The test is its definition.
-use Rattle.sheet.specs.Points.{rises}
-use mathlib.Core.Path.{refl}
+-- By y, and then by x.
+use Rattle.std.proofs.Common.{◌∙◌}
+use Rattle.sheet.specs.Parts.{position}
+use Rattle.sheet.proofs.Points.{rises_by_pairs}
 use Rattle.row_order.proofs.component_before.Goals as goal
 
 pub returns : goal.returns
-unfolding rises
-returns c = refl
+returns c = c.lt.ensures ∙ rises_by_pairs (position c.args.a) (position c.args.b)
