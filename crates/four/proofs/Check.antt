@@ -22,7 +22,7 @@ use Rattle.sheet.specs.Drawings.{lists_of, joint_rows}
 use Rattle.limits.specs.Limits.{blank_wire, blank_joint, blank_component, wire_fits, component_fits}
 use Rattle.limits.specs.Limits as Limits
 use Rattle.row_order.specs.RowOrder.{check2, check7, upward}
-use Rattle.rules.specs.declared.Touching.{Touching}
+use Rattle.rules.specs.Touching.{Touching}
 use Rattle.rules.specs.Check.{check3, check4, check6, broken, unless, unless_touching, touching_one, touching_from, from_rule5, check_of}
 use Rattle.four.specs.Plans.{Plan}
 use Rattle.four.specs.Plans as Plans

@@ -14,8 +14,8 @@ use Rattle.sheet.specs.Drawings.{joint_rows}
 use Rattle.limits.specs.Limits.{blank_wire, blank_joint, wire_fits}
 use Rattle.row_order.specs.RowOrder.{check2, upward}
 use Rattle.rules.specs.declared.Checked.{Checked}
-use Rattle.rules.specs.declared.Touching.{Touching}
-use Rattle.rules.specs.Check.{check3, check4, check6, none, broken, unless, unless_touching}
+use Rattle.rules.specs.Touching.{Touching, none}
+use Rattle.rules.specs.Check.{check3, check4, check6, broken, unless, unless_touching}
 use Rattle.four.specs.Plans.{Part, Plan, Drawing, pads_of, marks_of, touches, ahead, lists_of}
 
 -- "4: unknown kind, or not one of the eight orientations": this says that neither is so

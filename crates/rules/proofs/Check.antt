@@ -21,9 +21,8 @@ use Rattle.sheet.proofs.Parts.{touches_reads}
 use Rattle.limits.proofs.Decides.{LabelsBehind, sized_behind, blank_behind, reads1}
 use Rattle.row_order.proofs.Decides.{reads2, reads7}
 use Rattle.rules.specs.declared.Checked.{Checked}
-use Rattle.rules.specs.declared.Touching.{Touching}
+use Rattle.rules.specs.Touching.{Touching, none as untouched}
 use Rattle.rules.specs.Check.{touching_one, touching_from, broken, unless, unless_touching, from_rule5, check_of}
-use Rattle.rules.specs.Check as C
 use Rattle.rules.specs.Verdict.{First, sound, fails, holds, seven, FirstPair, here, later, Touch, Right}
 use Rattle.rules.proofs.Decides.{reads3, reads4, reads6}
 
@@ -51,7 +50,7 @@ one i b j (c ∷ cs) other = step (touches b c) (touches_reads b c) (one i b (su
 -- what the walk over all rows from i on finds
 data Pairs (i : ℕ) (cs : List Component) : Touching → Type 0 where
   met : (a b : ℕ) → FirstPair Touch cs a b → Pairs i cs (record { found = true; first = i + a; second = i + b })
-  apart : Rule5 cs → Pairs i cs C.none
+  apart : Rule5 cs → Pairs i cs untouched
 
 pairs : (i : ℕ) (cs : List Component) → Pairs i cs (touching_from i cs)
 unfolding touching_from

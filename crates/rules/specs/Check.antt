@@ -17,7 +17,7 @@ use Rattle.sheet.specs.Rules.{ends_at}
 use Rattle.limits.specs.Limits.{check1}
 use Rattle.row_order.specs.RowOrder.{check2, check7}
 use Rattle.rules.specs.declared.Checked.{Checked}
-use Rattle.rules.specs.declared.Touching.{Touching}
+use Rattle.rules.specs.Touching.{Touching, none}
 
 -- ---- rules 3 and 4
 
@@ -38,10 +38,6 @@ unfoldable pub check4 : List Wire → List Point → Bool
 check4 ws ps = list_all (λ p. not (bare false ws ps p || bare true ws ps p)) (ends ws)
 
 -- ---- rule 5: "it stops at the first pair of boxes that share a point, by lower row and then higher, and tells both rows, counted from 0"
-
--- no such pair
-abbrev pub none : Touching
-none = record { found = false; first = 0; second = 0 }
 
 -- row i is b, and the rows from j on are cs; other is the answer if b touches none of these
 unfoldable pub touching_one : ℕ → Component → ℕ → List Component → Touching → Touching

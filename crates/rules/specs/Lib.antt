@@ -1,3 +1,4 @@
+pub mod Touching
 pub mod Check
 pub mod Verdict
 pub mod Steps

@@ -1,44 +1,33 @@
 // Rule 5: no two component boxes share a point, edges counted.
-ghost use Rattle.std.specs.Prelude.{◌≡◌};
-ghost use Rattle.sheet.specs.Drawings.{component_rows};
-ghost use Rattle.parts.specs.Tables.{PartsFit};
+ghost use Rattle.std.specs.Prelude.{◌≡◌, ◌≤◌, length, position};
+ghost use Rattle.sheet.specs.Parts.{box};
+ghost use Rattle.symbol.specs.Symbols.{touches_of};
+ghost use Rattle.parts.specs.Tables.{EachFits};
 ghost use Rattle.rules.specs.Check.{touching_from};
+ghost use Rattle.rules.specs.Touching.{as_touching};
 
-use crate::Touching;
 use parts::box_of;
-use sheet::Components;
-use symbol::touches;
+use sheet::Component;
+use symbol::{Bounds, touches};
+
+// The first of the components whose box shares a point with the box p.
+fn first_met(p: Bounds, cs: &[Component]) -> Option<usize>
+    requires { EachFits cs.now }
+    ensures { result ≡ position (λ c. touches_of p (box c)) cs.now }
+{
+    cs.iter().position(|c| touches(p, box_of(*c)))
+}
 
 // The first pair of rows whose boxes share a point, by lower row and then higher.
-pub fn first_touching(cs: Components) -> Touching
-    requires { PartsFit cs }
-    ensures { result ≡ touching_from 0 (component_rows cs) }
+pub fn first_touching(cs: &[Component]) -> Option<(u16, u16)>
+    requires { (length cs.now ≤ 128) × EachFits cs.now }
+    ensures { as_touching result ≡ touching_from 0 cs.now }
 {
-    let n = cs.count;
-    let mut met = Touching {
-        found: false,
-        first: 0,
-        second: 0,
-    };
-    let mut i = 0;
-    'walk: while i < n {
-        let a = cs.rows[i];
-        let p = box_of(a);
-        let mut j = i + 1;
-        while j < n {
-            let b = cs.rows[j];
-            let q = box_of(b);
-            if touches(p, q) {
-                met = Touching {
-                    found: true,
-                    first: i as u16,
-                    second: j as u16,
-                };
-                break 'walk;
-            }
-            j += 1;
+    for (i, a) in cs.iter().enumerate() {
+        if let Some(k) = first_met(box_of(*a), &cs[i + 1..]) {
+            let j = i + 1 + k;
+            return Some((i as u16, j as u16));
         }
-        i += 1;
     }
-    met
+    None
 }

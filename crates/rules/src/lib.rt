@@ -9,7 +9,7 @@ ghost use Rattle.std.specs.Prelude.{◌≡◌, ◌≤◌};
 ghost use Rattle.sheet.specs.Geometry.{marks};
 ghost use Rattle.sheet.specs.Joints.{joints_of};
 ghost use Rattle.sheet.specs.Parts.{pads_of};
-ghost use Rattle.sheet.specs.Drawings.{wire_rows, component_rows, joint_table, lists_of, marks_of};
+ghost use Rattle.sheet.specs.Drawings.{joint_rows, lists_of, marks_of};
 ghost use Rattle.parts.specs.Tables.{PartsFit};
 ghost use Rattle.rules.specs.Check.{broken, from_rule5, check_of};
 ghost use Rattle.rules.specs.Steps.{Within};
@@ -21,20 +21,13 @@ use joints::count_joints;
 use limits::within_limits;
 use parts::pads::all_pads;
 use row_order::{components_rise, joints_rise, wires_apart, wires_rise};
-use sheet::{Components, Drawing, Joints, Wires};
+use sheet::{Components, Drawing, Joint, Joints, Wires};
 
 // The first broken rule, or 0; for rule 5 the two rows whose boxes share a point.
+// No enum: the edit rows_told_of_no_boxes tells rows beside a rule that has none, and an enum has no place for them.
 #[derive(Clone, Copy)]
 pub struct Checked {
     pub rule: u8,
-    pub first: u16,
-    pub second: u16,
-}
-
-// Two rows whose boxes share a point, if there are such.
-#[derive(Clone, Copy)]
-pub struct Touching {
-    pub found: bool,
     pub first: u16,
     pub second: u16,
 }
@@ -52,28 +45,27 @@ pub fn broken_rule(k: u8) -> Checked
 }
 
 // The joints of the wires and pads, counted afresh.
-fn count_afresh(ws: Wires, cs: Components) -> Joints
-    requires { (ws.count ≤ 512) × PartsFit cs }
-    ensures { result ≡ joint_table (joints_of (marks (wire_rows ws) (pads_of (component_rows cs)))) }
+fn count_afresh(d: &Drawing) -> Joints
+    requires { Within d.now }
+    ensures { joint_rows result ≡ joints_of (marks_of (lists_of d.now)) }
 {
-    let pads = all_pads(cs);
-    count_joints(ws, pads)
+    let pads = all_pads(d.components);
+    count_joints(d.wires, pads)
 }
 
 // The first broken rule from rule 5 on.
-fn check_boxes_and_joints(d: Drawing, js: Joints) -> Checked
-    requires { Within d × (js ≡ joint_table (joints_of (marks_of (lists_of d)))) }
-    ensures { result ≡ from_rule5 d }
+fn check_boxes_and_joints(d: &Drawing, js: &[Joint]) -> Checked
+    requires { Within d.now × (js.now ≡ joints_of (marks_of (lists_of d.now))) }
+    ensures { result ≡ from_rule5 d.now }
 {
-    let ws = d.wires;
-    let cs = d.components;
-    let rows = d.joints;
-    let met = first_touching(cs);
-    if met.found {
+    let ws = d.wires.in_use();
+    let cs = d.components.in_use();
+    let rows = d.joints.in_use();
+    if let Some((first, second)) = first_touching(cs) {
         return Checked {
             rule: 5,
-            first: met.first,
-            second: met.second,
+            first,
+            second,
         };
     }
     if !all_listed(rows, js) {
@@ -92,17 +84,17 @@ pub fn check_plainly(d: Drawing) -> Checked
     if !within_limits(d) {
         return broken_rule(1);
     }
-    let ws = d.wires;
-    let cs = d.components;
+    let ws = d.wires.in_use();
     if !wires_apart(ws) {
         return broken_rule(2);
     }
-    let js = count_afresh(ws, cs);
+    let counted = count_afresh(&d);
+    let js = counted.in_use();
     if !none_inside(ws, js) {
         return broken_rule(3);
     }
     if !all_parted(ws, js) {
         return broken_rule(4);
     }
-    check_boxes_and_joints(d, js)
+    check_boxes_and_joints(&d, js)
 }

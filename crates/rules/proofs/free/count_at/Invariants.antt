@@ -1,13 +1,7 @@
--- None of the rows passed lies at the point.
-use Prim.Native.Nat.{◌-◌, ◌≤◌}
-use Rattle.lists.proofs.Walks.{Rest}
+-- None of the joints passed lies at the point.
+use Rattle.std.proofs.Common.{◌≡◌, drop}
 use Rattle.sheet.specs.Joints.{count_at}
-use lib.ListN.{take, length}
-use mathlib.Core.Path.{◌≡◌}
 use Rattle.rules.proofs.free.count_at.Given as goal
 
-abbrev pub invariant-loop-i : goal.invariant-loop-i
-invariant-loop-i l = (l.i ≤ l.n) × (length l.js.rows ≡ 1408) × Rest (count_at l.p) l.js.rows l.n l.i (count_at l.p (take l.n l.js.rows))
-
-abbrev pub decreases-loop-i : goal.decreases-loop-i
-decreases-loop-i l = l.n - l.i
+abbrev pub invariant-loop-j : goal.invariant-loop-j
+invariant-loop-j l = count_at l.p l.js ≡ count_at l.p (drop l.j-index l.js)
