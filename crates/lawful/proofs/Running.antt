@@ -1,23 +1,24 @@
 -- Wires from a joint to the next one of their line are clear; where each wire from row i on is, all are.
 use Prim.Native.Nat.{ℕ, ◌+◌, ◌-◌, ◌≤◌, ◌<◌}
 use native.Mathlib.Omega.{arith}
-use mathlib.Core.Bool.{Bool, true, false, ◌||◌}
+use mathlib.Core.Bool.{Bool, true, false}
 use mathlib.Core.List.{List}
 use mathlib.Core.Path.{◌≡◌, sym, ap, subst, ◌∙◌}
-use mathlib.Core.Logic.{⊎_elim, ◌⊎◌, inl, inr}
+use mathlib.Core.Logic.{⊎_elim}
 use lib.Dec.{T}
-use lib.ListN.{length, get_or, take, drop}
+use lib.ListN.{length, get_or, take, drop, drop_of_length-le}
+use lib.Seq.{take_all}
 use Rattle.lists.specs.Lists.{◌∈◌}
-use Rattle.lists.proofs.Tests.{holds, not_reads, and_reads, or_reads, eqb_reads, compare, clash, true_reads}
+use Rattle.lists.proofs.Tests.{holds, not_reads, and_reads, or_reads, eqb_reads, compare}
 use Rattle.lists.proofs.Tables.{row_in}
-use Rattle.lists.proofs.Walks.{rows_from_lem, rows_past}
+use Rattle.lists.proofs.Pairing.{rows_left}
 use Rattle.symbol.specs.declared.Point.{Point}
 use Rattle.sheet.specs.declared.Wire.{Wire}
 use Rattle.sheet.specs.declared.Joint.{Joint}
 use Rattle.sheet.specs.Points.{Rise, lower, level}
 use Rattle.sheet.specs.Geometry.{along, across, low, high, at, tip, Side, Inside, Follows}
 use Rattle.sheet.specs.Joints.{joint_point, Rising}
-use Rattle.sheet.specs.Drawings.{zero_joint}
+use Rattle.sheet.specs.Drawings.{zero_joint, zero_wire}
 use Rattle.sheet.proofs.Points.{same_reads, rise_self, rise_asym}
 use Rattle.sheet.proofs.Geometry.{same_dir, along_point, across_point}
 use Rattle.rules.proofs.Counted.{goes_on_reads}
@@ -79,27 +80,23 @@ module _ (l : List Joint) (n : ℕ) (rising : Rising (take n l)) (size : n ≤ l
           (compare i s)
 
   -- horizontal wires, from a row to the next
-  pub level_clear : (a w : Wire) (k : ℕ) {b : Bool} → b ≡ clears a w (get_or l (k - 1) zero_joint) (get_or l k zero_joint) → (w.vertical || b) ≡ true → 1 ≤ k → k < n → w.vertical ≡ false → Clear (take n l) a w
-  level_clear a w k {b} f e h g d = told (holds (or_reads (true_reads w.vertical) (true_reads b)) (subst T (sym e) tt))
-    where
-      told : (w.vertical ≡ true) ⊎ (b ≡ true) → Clear (take n l) a w
-      told (inl t) = absurd (clash t d)
-      told (inr t) =
-          let p = passed a w (get_or l (k - 1) zero_joint) (get_or l k zero_joint) (sym f ∙ t) in
-          let i = end_line low w d p.start in
-          let j = end_line high w d p.end in
-          record {
-            from = get_or l (k - 1) zero_joint;
-            among = row_in l n (k - 1) zero_joint (omega arith) size;
-            start = p.start;
-            free = λ q m z. let u = inner_line (joint_point q) w d z in
-                let b = between (k - 1) k q (omega arith) g m (level (omega (arith, i.0, u.line)) (omega (arith, i.1, u.from))) (level (omega (arith, j.0, u.line)) (omega (arith, j.1, u.to))) in
-                omega (arith, b.after, b.before);
-            parted = p.parted;
-          }
+  level_clear : (a w : Wire) (k : ℕ) → clears a w (get_or l (k - 1) zero_joint) (get_or l k zero_joint) ≡ true → 1 ≤ k → k < n → w.vertical ≡ false → Clear (take n l) a w
+  level_clear a w k t h g d =
+      let p = passed a w (get_or l (k - 1) zero_joint) (get_or l k zero_joint) t in
+      let i = end_line low w d p.start in
+      let j = end_line high w d p.end in
+      record {
+        from = get_or l (k - 1) zero_joint;
+        among = row_in l n (k - 1) zero_joint (omega arith) size;
+        start = p.start;
+        free = λ q m z. let u = inner_line (joint_point q) w d z in
+            let b = between (k - 1) k q (omega arith) g m (level (omega (arith, i.0, u.line)) (omega (arith, i.1, u.from))) (level (omega (arith, j.0, u.line)) (omega (arith, j.1, u.to))) in
+            omega (arith, b.after, b.before);
+        parted = p.parted;
+      }
 
   -- vertical wires, from a row to the next of its column
-  pub upright_clear : (a w : Wire) (k r : ℕ) {next : List ℕ} → Chained l n next → r ≡ get_or next k 0 → clears a w (get_or l k zero_joint) (get_or l r zero_joint) ≡ true → k < n → r < n → w.vertical ≡ true → Clear (take n l) a w
+  upright_clear : (a w : Wire) (k r : ℕ) {next : List ℕ} → Chained l n next → r ≡ get_or next k 0 → clears a w (get_or l k zero_joint) (get_or l r zero_joint) ≡ true → k < n → r < n → w.vertical ≡ true → Clear (take n l) a w
   upright_clear a w k r {next} c e t h g d =
       let p = passed a w (get_or l k zero_joint) (get_or l r zero_joint) t in
       let i = end_line low w d p.start in
@@ -114,16 +111,31 @@ module _ (l : List Joint) (n : ℕ) (rising : Rising (take n l)) (size : n ≤ l
         parted = p.parted;
       }
 
+-- the same of all rows
+module _ (js : List Joint) (rising : Rising js) where
+  whole : take (length js) js ≡ js
+  whole = take_all (length js) js (omega arith)
+
+  pub level_in : (a w : Wire) (k : ℕ) → clears a w (get_or js (k - 1) zero_joint) (get_or js k zero_joint) ≡ true → 1 ≤ k → k < length js → w.vertical ≡ false → Clear js a w
+  level_in a w k t h g d = subst (λ (l : List Joint). Clear l a w) whole (level_clear js (length js) (subst Rising (sym whole) rising) (omega arith) a w k t h g d)
+
+  pub upright_in : (a w : Wire) (k r : ℕ) {next : List ℕ} → Chained js (length js) next → r ≡ get_or next k 0 → clears a w (get_or js k zero_joint) (get_or js r zero_joint) ≡ true → k < length js → r < length js → w.vertical ≡ true → Clear js a w
+  upright_in a w k r c e t h g d = subst (λ (l : List Joint). Clear l a w) whole (upright_clear js (length js) (subst Rising (sym whole) rising) (omega arith) a w k r c e t h g d)
+
 -- ---- the walk
 
-pub record Running (v : Bool) (js : List Joint) (l : List Wire) (n i : ℕ) (first last : Wire) : Type 0 where
-  pub rest : Run v js last (drop i (take n l)) → Run v js first (take n l)
+pub record Running (v : Bool) (js : List Joint) (ws : List Wire) (i : ℕ) (first last : Wire) : Type 0 where
+  pub rest : Run v js last (drop i ws) → Run v js first ws
 
-pub running_start : (v : Bool) (js : List Joint) (l : List Wire) (n : ℕ) (first : Wire) → Running v js l n 0 first first
-running_start v js l n first = record { rest = λ r. r }
+pub running_start : (v : Bool) (js : List Joint) (ws : List Wire) (first : Wire) → Running v js ws 0 first first
+running_start v js ws first = record { rest = λ r. r }
 
-pub running_next : {v : Bool} {js : List Joint} {l : List Wire} {n i : ℕ} {first last : Wire} (d : Wire) → Running v js l n i first last → ((get_or l i d).vertical ≡ v → Clear js last (get_or l i d)) → i < n → n ≤ length l → Running v js l n (i + 1) first (get_or l i d)
-running_next {v} {js} {l} {n} {i} {first} {last} d s e h a = record { rest = λ r. s.rest (subst (λ (xs : List Wire). Run v js last xs) (sym (rows_from_lem l n i d h a)) (more e r)) }
+pub running_next : {v : Bool} {js : List Joint} {ws : List Wire} {i : ℕ} {first last : Wire} (w : Wire) → i < length ws → w ≡ get_or ws i w → Running v js ws i first last → (w.vertical ≡ v → Clear js last w) → Running v js ws (i + 1) first w
+running_next {v} {js} {ws} {i} {first} {last} w h e s c = record { rest = λ r. s.rest (subst (λ (xs : List Wire). Run v js last xs) (sym (rows_left ws i w h e)) (more c r)) }
 
-pub running_end : {v : Bool} {js : List Joint} {l : List Wire} {n i : ℕ} {first last : Wire} → Running v js l n i first last → n ≤ i → n ≤ length l → Runs v js (take n l)
-running_end {v} {js} {l} {n} {i} {first} {last} s h a = record { first = first; each = s.rest (subst (λ (xs : List Wire). Run v js last xs) (sym (rows_past l n i h a)) done) }
+pub running_end : {v : Bool} {js : List Joint} {ws : List Wire} {i : ℕ} {first last : Wire} → length ws ≤ i → Running v js ws i first last → Runs v js ws
+running_end {v} {js} {ws} {i} {first} {last} h s = record { first = first; each = s.rest (subst (λ (xs : List Wire). Run v js last xs) (sym (drop_of_length-le ws h)) done) }
+
+-- no wire at all
+pub none_run : {v : Bool} {js : List Joint} (ws : List Wire) → length ws ≡ 0 → Runs v js ws
+none_run {v} {js} ws e = running_end {i = 0} (omega arith) (running_start v js ws zero_wire)

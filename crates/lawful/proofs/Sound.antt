@@ -8,23 +8,20 @@ use Rattle.lists.proofs.Tests.{holds, and_reads, true_reads}
 use Rattle.lists.proofs.Lists.{links_reads}
 use Rattle.symbol.specs.declared.Point.{Point}
 use Rattle.sheet.specs.declared.Wire.{Wire}
-use Rattle.sheet.specs.Tables.{Wires}
+use Rattle.sheet.specs.declared.Component.{Component}
 use Rattle.sheet.specs.declared.Joint.{Joint}
-use Rattle.sheet.specs.Tables.{Joints}
 use Rattle.sheet.specs.declared.Drawing.{Drawing}
 use Rattle.sheet.specs.Geometry.{marks, Follows, Before, tip, high}
 use Rattle.sheet.specs.Points.{rises}
 use Rattle.sheet.specs.Joints.{joint_point, joints_of, Rising}
 use Rattle.sheet.specs.Parts.{position, pads_of, ahead}
-use Rattle.sheet.specs.Drawings.{Sheet, wire_rows, joint_rows, lists_of, marks_of, Sized}
+use Rattle.sheet.specs.Drawings.{Sheet, joint_rows, lists_of, marks_of, Sized}
 use Rattle.sheet.specs.Wiring.{AllFit, HeldApart, Wired}
 use Rattle.sheet.specs.Rules.{Rule2, Rule3, Rule5, Lawful}
 use Rattle.sheet.proofs.Points.{rises_reads, rise_chain}
 use Rattle.sheet.proofs.JointRows.{rules_6_7, joints_rising}
 use Rattle.sheet.proofs.RowOrder.{rules_2_7}
 use Rattle.sheet.proofs.Rules.{wired_rules}
-use Rattle.wires.specs.Points.{Points}
-use Rattle.wires.specs.Tables.{point_rows}
 use Rattle.limits.specs.Limits.{check1}
 use Rattle.limits.proofs.Decides.{sized_behind, reads1}
 use Rattle.lawful.specs.Looks.{before, Runs}
@@ -55,14 +52,14 @@ wired {ws} ps {js} fits t e level up = record { clean = record { fits = fits; or
     anchored a b m n g = either a.vertical (λ v. a.vertical ≡ v → HeldApart ws ps a.vertical (tip high a)) (held_apart ps false e level fits two order a b m n g) (held_apart ps true e up fits two order a b m n g) refl
 
 -- what the looks at the wires answer
-module _ (ws : Wires) (pads : Points) (js : Joints) (e : joint_rows js ≡ joints_of (marks (wire_rows ws) (point_rows pads))) where
-  pub joints_rise : Rising (joint_rows js)
-  joints_rise = subst Rising (sym e) (joints_rising (marks (wire_rows ws) (point_rows pads)))
+module _ (ws : List Wire) (ps : List Point) {js : List Joint} (e : js ≡ joints_of (marks ws ps)) where
+  pub joints_rise : Rising js
+  joints_rise = subst Rising (sym e) (joints_rising (marks ws ps))
 
-  pub wires_sound : {a b c : Bool} → a ≡ links before (wire_rows ws) → (b ≡ true → Runs false (joint_rows js) (wire_rows ws)) → (c ≡ true → Runs true (joint_rows js) (wire_rows ws)) → (a && (b && c)) ≡ true → AllFit (wire_rows ws) → Wired (wire_rows ws) (point_rows pads)
+  pub wires_sound : {a b c : Bool} → a ≡ links before ws → (b ≡ true → Runs false js ws) → (c ≡ true → Runs true js ws) → (a && (b && c)) ≡ true → AllFit ws → Wired ws ps
   wires_sound {a} {b} {c} p q r t fits =
       let k = holds (and_reads (true_reads a) (and_reads (true_reads b) (true_reads c))) (subst T (sym t) tt) in
-      wired (point_rows pads) fits (subst T (sym (sym p ∙ k.0)) tt) e (q k.1.0) (r k.1.1)
+      wired ps fits (subst T (sym (sym p ∙ k.0)) tt) e (q k.1.0) (r k.1.1)
 
 -- ---- joints
 
@@ -72,13 +69,16 @@ rows_rise js t = (rise_chain joint_point).1 (holds (links_reads (λ i j. rises_r
 
 -- ---- the drawing
 
-module _ (d : Drawing) (z : Sized d) (one : check1 d ≡ true) (pads : Points) where
+module _ (d : Drawing) (z : Sized d) (one : check1 d ≡ true) where
   abbrev s : Sheet
   s = lists_of d
 
-  pub all_sound : {b c e : Bool} → point_rows pads ≡ pads_of s.parts → joint_rows d.joints ≡ joints_of (marks s.wires (point_rows pads)) → b ≡ links ahead s.parts
-      → (c ≡ true → T (links ahead s.parts) → Rule5 s.parts) → (e ≡ true → AllFit s.wires → Wired s.wires (point_rows pads)) → (b && (c && e)) ≡ true → Lawful d
-  all_sound {b} {c} {e} f p q r w t =
+  pub all_sound : {ps : List Point} {cs : List Component} {ws : List Wire} → cs ≡ s.parts → ws ≡ s.wires → {b c e : Bool} → ps ≡ pads_of s.parts → joint_rows d.joints ≡ joints_of (marks s.wires ps) → b ≡ links ahead cs
+      → (c ≡ true → T (links ahead cs) → Rule5 cs) → (e ≡ true → AllFit ws → Wired ws ps) → (b && (c && e)) ≡ true → Lawful d
+  all_sound {ps} u v {b} {c} {e} f p q0 r0 w0 t =
+      let q : b ≡ links ahead s.parts = q0 ∙ ap (links ahead) u in
+      let r = subst (λ (l : List Component). c ≡ true → T (links ahead l) → Rule5 l) u r0 in
+      let w = subst (λ (l : List Wire). e ≡ true → AllFit l → Wired l ps) v w0 in
       let k = holds (and_reads (true_reads b) (and_reads (true_reads c) (true_reads e))) (subst T (sym t) tt) in
       let rise : T (links ahead s.parts) = subst T (sym (sym q ∙ k.0)) tt in
       let first = holds (reads1 d (sized_behind d z)) (subst T (sym one) tt) in

@@ -1,5 +1,5 @@
 -- Boxes reach no further than 150 from their positions, and rows rise: the walk may pass over what is far.
-use Prim.Native.Nat.{ℕ, zero, suc, ◌+◌, ◌≤◌, ◌<◌}
+use Prim.Native.Nat.{ℕ, zero, suc, ◌+◌, ◌-◌, ◌≤◌, ◌<◌}
 use native.Mathlib.Omega.{arith}
 use mathlib.Core.Bool.{true, ◌||◌, not}
 use mathlib.Core.List.Memᴰ.{not-nil as ∈-nil}
@@ -7,12 +7,12 @@ use mathlib.Core.List.{List}
 use mathlib.Core.Path.{◌≡◌, sym, subst}
 use mathlib.Core.Logic.{⊎_elim}
 use lib.Dec.{T}
-use lib.ListN.{length, get_or, take, drop}
+use lib.ListN.{length, get_or, take, drop, drop_of_length-le}
 use Rattle.lists.specs.Lists.{◌∈◌, Rows, none, more, links}
 use Rattle.lists.proofs.Tests.{holds, not_reads, or_reads, ltb_reads}
 use Rattle.lists.proofs.Lists.{in_cons, links_reads}
 use Rattle.lists.proofs.Order.{rows_head}
-use Rattle.lists.proofs.Walks.{rows_from_lem, rows_past}
+use Rattle.lists.proofs.Pairing.{rows_left, rows_behind}
 use Rattle.symbol.specs.declared.Bounds.{Bounds}
 use Rattle.symbol.specs.Symbols.{touches_of}
 use Rattle.symbol.proofs.Exact.{Reached, box_reached}
@@ -60,41 +60,38 @@ higher : (a b : Component) → Rise (position a) (position b) → a.y ≤ b.y
 higher a b (lower h) = omega arith
 higher a b (level e h) = omega arith
 
--- ---- the walk over all pairs: where the boxes from row i on are apart, all are, of rows that rise
-
-pub record Outer (l : List Component) (n i : ℕ) : Type 0 where
-  pub rest : T (links ahead (take n l)) → Rule5 (drop i (take n l)) → Rule5 (take n l)
-
--- and where row i, whose box is p, is apart from the rows from j on
-pub record Inner (l : List Component) (n i j : ℕ) (p : Bounds) : Type 0 where
-  pub rest : T (links ahead (take n l)) → ((c : Component) → c ∈ drop j (take n l) → Apart p c) → Rule5 (drop (i + 1) (take n l)) → Rule5 (take n l)
-
-pub outer_start : (l : List Component) (n : ℕ) → Outer l n 0
-outer_start l n = record { rest = λ t r. r }
-
-pub outer_in : {l : List Component} {n i : ℕ} {p : Bounds} (d : Component) → Outer l n i → p ≡ box (get_or l i d) → i < n → n ≤ length l → Inner l n i (i + 1) p
-outer_in {l} {n} {i} {p} d s e h k = record { rest = λ t g r. s.rest t (subst Rule5 (sym (rows_from_lem l n i d h k)) (more (λ c m. subst (λ (q : Bounds). Apart q c) e (g c m)) r)) }
-
-pub inner_next : {l : List Component} {n i j : ℕ} {p : Bounds} (d : Component) → Inner l n i j p → Apart p (get_or l j d) → j < n → n ≤ length l → Inner l n i (j + 1) p
-inner_next {l} {n} {i} {j} {p} d s f h k = record {
-  rest = λ t g r. s.rest t (λ c m. in_cons (Apart p) f g (subst (λ (xs : List Component). c ∈ xs) (rows_from_lem l n j d h k) m)) r;
-}
-
-pub inner_end : {l : List Component} {n i j : ℕ} {p : Bounds} → Inner l n i j p → n ≤ j → n ≤ length l → Outer l n (i + 1)
-inner_end {l} {n} {i} {j} s h k = record { rest = λ t r. s.rest t (λ c m. absurd (∈-nil (subst (λ (xs : List Component). c ∈ xs) (rows_past l n j h k) m))) r }
+-- ---- the walk over the rows behind one: none of those from row j on is left to touch p
 
 -- the row at j is too far behind, and so is each later one
-pub inner_far : {l : List Component} {n i j : ℕ} {p : Bounds} (d : Component) → Inner l n i j p → ((c : Component) → c ∈ take n l → PartFits c) → far p.high.y (get_or l j d).y ≡ true → j < n → n ≤ length l → Outer l n (i + 1)
-inner_far {l} {n} {i} {j} {p} d s each e h k = record { rest = λ t r. s.rest t (λ c m. above c (each c (in_drop j (take n l) m)) (later t c m)) r }
+pub far_on : (cs : List Component) (j : ℕ) {p : Bounds} (b : Component) → Rows (λ b c. Rise (position b) (position c)) cs → ((c : Component) → c ∈ cs → PartFits c) → j < length cs → b ≡ get_or cs j b → far p.high.y b.y ≡ true
+    → (c : Component) → c ∈ drop j cs → Apart p c
+far_on cs j {p} b rise each h e f c m = above c (each c (in_drop j cs m)) (later m)
   where
-    here : p.high.y + 150 < (get_or l j d).y
-    here = holds (ltb_reads (p.high.y + 150) (get_or l j d).y) (subst T (sym e) tt)
+    here : p.high.y + 150 < b.y
+    here = holds (ltb_reads (p.high.y + 150) b.y) (subst T (sym f) tt)
 
-    later : T (links ahead (take n l)) → (c : Component) → c ∈ drop j (take n l) → p.high.y + 150 < c.y
-    later t c m =
-        let r = (rise_chain position).1 (holds (links_reads (λ b c. rises_reads (position b) (position c)) (take n l)) t) in
-        let q = subst (Rows (λ b c. Rise (position b) (position c))) (rows_from_lem l n j d h k) (rows_drop j r) in
-        in_cons (λ (c : Component). p.high.y + 150 < c.y) here (λ z o. let g = higher (get_or l j d) z (rows_head q z o) in omega (arith, here)) (subst (λ (xs : List Component). c ∈ xs) (rows_from_lem l n j d h k) m)
+    later : c ∈ drop j cs → p.high.y + 150 < c.y
+    later m =
+        let r = subst (Rows (λ b c. Rise (position b) (position c))) (rows_left cs j b h e) (rows_drop j rise) in
+        in_cons (λ (c : Component). p.high.y + 150 < c.y) here (λ z o. let g = higher b z (rows_head r z o) in omega (arith, here)) (subst (λ (xs : List Component). c ∈ xs) (rows_left cs j b h e) m)
 
-pub outer_end : {l : List Component} {n i : ℕ} → Outer l n i → n ≤ i → n ≤ length l → T (links ahead (take n l)) → Rule5 (take n l)
-outer_end {l} {n} {i} s h k t = s.rest t (subst Rule5 (sym (rows_past l n i h k)) none)
+-- what is apart from p, and the rows behind it
+pub apart_on : (cs : List Component) (j : ℕ) {p : Bounds} (b : Component) → j < length cs → b ≡ get_or cs j b → Apart p b → ((c : Component) → c ∈ drop (j + 1) cs → Apart p c) → (c : Component) → c ∈ drop j cs → Apart p c
+apart_on cs j {p} b h e f g c m = in_cons (Apart p) f g (subst (λ (xs : List Component). c ∈ xs) (rows_left cs j b h e) m)
+
+pub apart_off : (cs : List Component) (j : ℕ) {p : Bounds} → length cs ≤ j → (c : Component) → c ∈ drop j cs → Apart p c
+apart_off cs j h c m = absurd (∈-nil (subst (λ (xs : List Component). c ∈ xs) (drop_of_length-le cs h) m))
+
+-- ---- the walk over all rows: where the boxes from row i on are apart, all are
+
+pub risen : (cs : List Component) → T (links ahead cs) → Rows (λ b c. Rise (position b) (position c)) cs
+risen cs t = (rise_chain position).1 (holds (links_reads (λ b c. rises_reads (position b) (position c)) cs) t)
+
+pub rule5_on : (cs : List Component) (i : ℕ) {p : Bounds} (a : Component) → i < length cs → a ≡ get_or cs i a → p ≡ box a → Rows (λ b c. Rise (position b) (position c)) cs
+    → (Rows (λ b c. Rise (position b) (position c)) (take (length cs - (i + 1)) (drop (i + 1) cs)) → (c : Component) → c ∈ take (length cs - (i + 1)) (drop (i + 1) cs) → Apart p c) → Rule5 (drop (i + 1) cs) → Rule5 (drop i cs)
+rule5_on cs i {p} a h e q rise g r =
+    let w = rows_behind cs (i + 1) in
+    subst Rule5 (sym (rows_left cs i a h e)) (more (λ c m. subst (λ (b : Bounds). Apart b c) q (g (subst (Rows (λ b c. Rise (position b) (position c))) (sym w) (rows_drop (i + 1) rise)) c (subst (λ (l : List Component). c ∈ l) (sym w) m))) r)
+
+pub rule5_off : (cs : List Component) (i : ℕ) → length cs ≤ i → Rule5 (drop i cs)
+rule5_off cs i h = subst Rule5 (sym (drop_of_length-le cs h)) none

@@ -1,8 +1,8 @@
 // The joints of each column in a row: joint rows rise by y, so the next one in its column is the next one up.
-ghost use Rattle.std.specs.Prelude.{◌≡◌, ◌≤◌, ◌<◌};
+ghost use Rattle.std.specs.Prelude.{◌≡◌, ◌≤◌, ◌<◌, length};
 ghost use Rattle.lawful.specs.Looks.{column_of, next_row, Chained};
 
-use sheet::Joints;
+use sheet::Joint;
 
 // For each column its first joint row, and for each joint row the next one in its column; 1,408 where there is none.
 #[derive(Clone, Copy)]
@@ -22,19 +22,18 @@ pub fn column(x: u16) -> usize
 }
 
 // The joint rows by column. What stands first in a column is only where to look: that none is passed over is what counts.
-pub fn by_column(js: Joints) -> Columns
-    requires { js.count ≤ 1408 }
-    ensures { Chained js.rows js.count result.next }
+pub fn by_column(js: &[Joint]) -> Columns
+    requires { length js.now ≤ 1408 }
+    ensures { Chained js.now (length js.now) result.next }
 {
     let mut out = Columns {
         first: [1408; 12001],
         next: [1408; 1408],
     };
-    let mut k = js.count;
+    let mut k = js.len();
     while 0 < k {
         let m = k - 1;
-        let j = js.rows[m];
-        let c = column(j.x);
+        let c = column(js[m].x);
         out.next[m] = out.first[c];
         out.first[c] = m as u16;
         k = m;

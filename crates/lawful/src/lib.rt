@@ -7,7 +7,7 @@ mod columns;
 mod order;
 mod runs;
 
-ghost use Rattle.std.specs.Prelude.{◌≡◌, true, ◌≤◌};
+ghost use Rattle.std.specs.Prelude.{◌≡◌, true, ◌≤◌, length};
 ghost use Rattle.sheet.specs.Geometry.{marks};
 ghost use Rattle.sheet.specs.Joints.{joints_of};
 ghost use Rattle.sheet.specs.Drawings.{wire_rows, joint_rows};
@@ -24,13 +24,14 @@ use limits::within_limits;
 use parts::pads::all_pads;
 use row_order::{components_rise, joints_rise};
 use rules::Checked;
-use sheet::{Drawing, Joints, Wires};
+use sheet::{Drawing, Joint, Joints, Wire, Wires};
+use symbol::Point;
 use wires::Points;
 
 // Rules 2 to 4 and 7 of wires hold.
-fn wires_right(ws: Wires, pads: Points, js: Joints) -> bool
-    requires { (ws.count ≤ 512) × ((js.count ≤ 1408) × (joint_rows js ≡ joints_of (marks (wire_rows ws) (point_rows pads)))) }
-    ensures { result ≡ true → AllFit (wire_rows ws) → Wired (wire_rows ws) (point_rows pads) }
+fn wires_right(ws: &[Wire], pads: &[Point], js: &[Joint]) -> bool
+    requires { (length js.now ≤ 1408) × (js.now ≡ joints_of (marks ws.now pads.now)) }
+    ensures { result ≡ true → AllFit ws.now → Wired ws.now pads.now }
 {
     wires_in_order(ws) & (levels_clear(ws, js) & uprights_clear(ws, js))
 }
@@ -40,7 +41,7 @@ fn joints_right(js: Joints, ws: Wires, pads: Points) -> bool
     requires { (js.count ≤ 1408) × ((ws.count ≤ 512) × (pads.count ≤ 384)) }
     ensures { result ≡ true → joint_rows js ≡ joints_of (marks (wire_rows ws) (point_rows pads)) }
 {
-    if !joints_rise(js) {
+    if !joints_rise(js.in_use()) {
         return false;
     }
     joints_listed(js, ws, pads)
@@ -53,14 +54,13 @@ fn all_right(d: Drawing) -> bool
     if !within_limits(d) {
         return false;
     }
-    let ws = d.wires;
-    let cs = d.components;
-    let rows = d.joints;
-    let pads = all_pads(cs);
-    if !joints_right(rows, ws, pads) {
+    let pads = all_pads(d.components);
+    if !joints_right(d.joints, d.wires, pads) {
         return false;
     }
-    components_rise(cs) & (none_touch(cs) & wires_right(ws, pads, rows))
+    let cs = d.components.in_use();
+    components_rise(cs)
+        & (none_touch(cs) & wires_right(d.wires.in_use(), pads.in_use(), d.joints.in_use()))
 }
 
 // The first broken rule of a drawing, or 0; for rule 5 the two rows whose boxes share a point.

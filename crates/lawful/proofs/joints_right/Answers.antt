@@ -12,7 +12,7 @@ pub returns-then-not-joints_rise : goal.returns-then-not-joints_rise
 returns-then-not-joints_rise c = λ e. absurd (false≢true e)
 
 rising : (c : goal.Else-not-joints_rise) → Rising (joint_rows c.args.js)
-rising c = rows_rise (joint_rows c.args.js) (subst T (sym (sym c.joints_rise.ensures ∙ c.if-not-joints_rise.false)) tt)
+rising c = subst Rising c.in_use.ensures (rows_rise c.in_use.result.now (subst T (sym (sym c.joints_rise.ensures ∙ c.if-not-joints_rise.false)) tt))
 
 pub joints_listed-requires : goal.joints_listed-requires
 joints_listed-requires c = let p = c.requires in (p.0, (rising c, p.1))

@@ -6,7 +6,7 @@ use Rattle.lawful.proofs.Linking.{Linking}
 use Rattle.lawful.proofs.columns.by_column.Given as goal
 
 abbrev pub invariant-loop-k : goal.invariant-loop-k
-invariant-loop-k l = (l.k ≤ l.js.count) × ((length l.js.rows ≡ 1408) × ((length l.out.first ≡ 12001) × (length l.out.next ≡ 1408))) × Linking l.js.rows l.js.count l.k l.out.first l.out.next
+invariant-loop-k l = (l.k ≤ length l.js) × ((length l.out.first ≡ 12001) × (length l.out.next ≡ 1408)) × Linking l.js (length l.js) l.k l.out.first l.out.next
 
 abbrev pub decreases-loop-k : goal.decreases-loop-k
 decreases-loop-k l = l.k

@@ -1,32 +1,26 @@
--- Each horizontal wire passed is clear; the joints before k - 1 are done with.
-use native.Mathlib.Omega.{arith}
-use mathlib.Core.Bool.{false≢true}
-use mathlib.Core.Path.{◌≡◌}
-use lib.ListN.{length}
-use Rattle.lists.proofs.Tables.{long}
-use Rattle.lawful.proofs.Running.{running_start, running_next, running_end, level_clear}
+-- Each horizontal wire passed goes from the joint before row k to it.
+use Rattle.std.proofs.Common.{arith, get_or}
+use Rattle.lists.proofs.Tests.{clash}
+use Rattle.lists.proofs.Tables.{same_row}
+use Rattle.sheet.specs.Drawings.{zero_wire}
+use Rattle.lawful.proofs.Running.{running_next, running_end, none_run, level_in}
 use Rattle.lawful.proofs.runs.levels_clear.Goals as goal
+use Rattle.lawful.proofs.runs.levels_clear.Goals.{then-not-w+in-Some-level_from, else-not-w}
 
-pub loop-i-init : goal.loop-i-init
-loop-i-init c = ((omega arith, omega arith), (search long, search long), running_start _ _ _ _ _)
+pub returns-in_default : goal.returns-in_default
+returns-in_default c = λ e. none_run c.args.ws.now (omega (arith, c.in_default.ensures.item))
 
-pub returns-then-m-k : goal.returns-then-m-k
-returns-then-m-k c = λ e. absurd (false≢true e)
-
-pub loop-i-preserved-then-w-is_clear : goal.loop-i-preserved-then-w-is_clear
-loop-i-preserved-then-w-is_clear c =
-    let v = c.loop-i.invariant in
-    let js = c.args.js in
-    let size : length js.rows ≡ 1408 = v.1.1 in (
-      (omega arith, omega arith),
-      v.1,
-      running_next _ v.2
-          (λ d. level_clear js.rows js.count c.requires.1.1 (omega arith) _ _ c.loop-i.k c.is_clear.ensures c.if-w-is_clear.true (omega arith) (omega arith) d)
-          (omega arith) (omega arith),
-    )
-
-pub loop-i-preserved : goal.loop-i-preserved
-loop-i-preserved c = let v = c.loop-i.invariant in ((omega arith, omega arith), v.1, v.2)
+pub loop-w-preserved : goal.loop-w-preserved
+loop-w-preserved c =
+    let ws = c.args.ws.now in
+    let i = c.loop-w.w-index in
+    let step = running_next (get_or ws i zero_wire) (omega arith) (same_row ws i zero_wire _ (omega arith)) c.loop-w.invariant.1 in
+    elim c.if-not-w.branch [
+      | then-not-w+in-Some-level_from w ↦
+          let q = w.in-Some-level_from.ensures in
+          (omega (arith, w.k-is, q.0), step (λ d. level_in c.args.js.now c.requires _ _ w.in-Some-level_from.q q.1.1 (omega (arith, q.0)) q.1.0 d))
+      | else-not-w w ↦ (omega (arith, w.k-is), step (λ d. absurd (clash w.if-not-w.false d)))
+    ]
 
 pub returns : goal.returns
-returns c = λ e. running_end c.loop-i.invariant.2 (omega arith) (omega arith)
+returns c = λ e. running_end (omega arith) c.loop-w.invariant.1

@@ -1,55 +1,27 @@
 -- Each vertical wire passed is clear.
-use native.Mathlib.Omega.{arith}
-use mathlib.Core.Path.{◌≡◌, sym, ◌∙◌}
-use borrow.Author.Tests.{not-true}
-use lib.ListN.{length, length-set}
-use Rattle.lists.proofs.Tables.{long}
+use Rattle.std.proofs.Common.{arith, get_or, subst, sym, ap, ◌∙◌, length}
 use Rattle.lists.proofs.Tests.{clash}
-use Rattle.lawful.proofs.Linking.{next_below}
-use Rattle.lawful.proofs.Running.{running_start, running_next, running_end, upright_clear}
+use Rattle.lists.proofs.Tables.{same_row}
+use Rattle.sheet.specs.Drawings.{zero_wire}
+use Rattle.lawful.specs.Looks.{Chained}
+use Rattle.lawful.proofs.Running.{running_next, running_end, none_run}
 use Rattle.lawful.proofs.runs.uprights_clear.Goals as goal
+use Rattle.lawful.proofs.runs.uprights_clear.Goals.{else-w-via-then-w+else-not-goes_upright, else-w-via-else-w}
 
-pub loop-i-init : goal.loop-i-init
-loop-i-init c = (omega arith, (search long, search long), (search long, (search long, c.by_column-cols.ensures)), running_start _ _ _ _ _)
+pub returns-in_default : goal.returns-in_default
+returns-in_default c = λ e. none_run c.args.ws.now (omega (arith, c.in_default.ensures.item))
 
--- past a horizontal wire
-pub loop-i-preserved-then-not-w : goal.loop-i-preserved-then-not-w
-loop-i-preserved-then-not-w c = let v = c.loop-i.invariant in (omega arith, v.1, v.2, running_next _ v.3 (λ d. absurd (clash d (not-true _ c.if-not-w.true))) (omega arith) (omega arith))
-
-pub offset_bounds-js-k : goal.offset_bounds-js-k
-offset_bounds-js-k c = omega (arith, (next_below _ _ _ c.next_row-r.ensures c.if-m-r.false).0)
-
-pub bounds-js-k : goal.bounds-js-k
-bounds-js-k c = omega (arith, (next_below _ _ _ c.next_row-r.ensures c.if-m-r.false).0)
-
--- past a vertical wire that is clear
-pub loop-i-preserved-then-is_clear : goal.loop-i-preserved-then-is_clear
-loop-i-preserved-then-is_clear c =
-    let e = c in
-    let t = e.loop-i-test.true in
-    let l = e in
-    let s = l in
-    let v = l.loop-i.invariant in
-    let js = s.args.js in
-    let size : length js.rows ≡ 1408 = v.1.1 in
-    let next = next_below _ _ _ e.next_row-r.ensures e.if-m-r.false in (
-      omega (arith, t),
-      v.1,
-      v.2,
-      running_next _ v.3
-          (λ d. upright_clear js.rows js.count s.requires.1.1 (omega arith) _ _ e.index-k.result e.next_row-r.result v.2.1.1 next.1 (sym c.is_clear.ensures ∙ c.if-is_clear.true) next.0 e.if-m-r.false d)
-          (omega (arith, t)) (omega arith),
-    )
-
-pub offset_bounds-cols-k : goal.offset_bounds-cols-k
-offset_bounds-cols-k c = omega (arith, (next_below _ _ _ c.next_row-r.ensures c.if-m-r.false).0, c.requires.1.0)
-
-pub bounds-cols-k : goal.bounds-cols-k
-bounds-cols-k c = omega (arith, (next_below _ _ _ c.next_row-r.ensures c.if-m-r.false).0, c.requires.1.0)
-
--- further along the column
-pub loop-i-preserved : goal.loop-i-preserved
-loop-i-preserved c = let v = c.loop-i.invariant in (omega arith, v.1, (simp length-set (omega arith), v.2.1), v.3)
+pub loop-w-preserved : goal.loop-w-preserved
+loop-w-preserved c =
+    let ws = c.args.ws.now in
+    let js = c.args.js.now in
+    let i = c.loop-w.w-index in
+    let step = running_next (get_or ws i zero_wire) (omega arith) (same_row ws i zero_wire _ (omega arith)) c.loop-w.invariant.1 in
+    elim c.else-w.branch [
+      | else-w-via-then-w+else-not-goes_upright w ↦
+          (subst (Chained js (length js)) (sym w.goes_upright.ensures.0 ∙ ap (λ x. x.next) (sym w.cols-is)) c.loop-w.invariant.0, step (λ d. w.goes_upright.ensures.1 w.if-not-goes_upright.false))
+      | else-w-via-else-w w ↦ (subst (Chained js (length js)) (ap (λ x. x.next) (sym w.cols-is)) c.loop-w.invariant.0, step (λ d. absurd (clash d w.if-w.false)))
+    ]
 
 pub returns : goal.returns
-returns c = λ e. running_end c.loop-i.invariant.3 (omega arith) (omega arith)
+returns c = λ e. running_end (omega arith) c.loop-w.invariant.1
