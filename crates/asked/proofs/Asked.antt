@@ -1,12 +1,12 @@
 -- Each answer, by what was found of the numbers.
 use Prim.Native.Nat.{ℕ}
 use native.Mathlib.Omega.{arith}
-use mathlib.Core.Bool.{Bool, true, false, not, ◌&&◌}
+use mathlib.Core.Bool.{Bool, true, false, ◌&&◌}
 use mathlib.Core.Path.{◌≡◌, refl, sym, ap, subst, ◌∙◌}
 use borrow.Author.Tests.{ne_eqb}
-use lib.Dec.{T, eqb, eqb→eq}
+use lib.Dec.{T, eqb→eq}
 use mathlib.Core.List.{List}
-use lib.IntN.{ℤ, pos, negsuc}
+use lib.IntN.{ℤ}
 use lib.Signed.{le_z}
 use mir.Syntax.{w32}
 use mir.Val.{SFits}
@@ -14,7 +14,7 @@ use Rattle.std.specs.Prelude.{Ok, Err}
 use Rattle.refusal.specs.Numbers.{number_of}
 use Rattle.refusal.specs.declared.Refusal.{Refusal}
 use Rattle.refusal.proofs.Numbers.{refuses}
-use Rattle.edge.specs.Coordinates.{biased, ranged, to_ℕ, size_of}
+use Rattle.edge.specs.Coordinates.{ranged, size_of}
 use Rattle.symbol.specs.Symbols.{known_symbol}
 use Rattle.symbol.specs.Replies.{point_reply, wire_reply, pointer_reply, symbol_reply, component_reply}
 use Rattle.symbol.proofs.Replies.{three, five}

@@ -66,7 +66,13 @@ pub fn asked_wire(vertical: bool, line: i32, start: i32, end: i32) -> Result<Wir
 // A component: a known kind and orientation, else 4; its position in its range, else 1; its label, else 5. Two wrong answers that this
 // rules out: one of a fourth kind (fourth_kind_taken), and one with a bad label (bad_label_taken).
 #[tactic(auto, using(crate::proofs::Asked::unknown_part, crate::proofs::Asked::far_x, crate::proofs::Asked::far_y, crate::proofs::Asked::mislabelled))]
-pub fn asked_part(kind: u8, orientation: u8, x: i32, y: i32, label: Label) -> Result<Component, Refusal>
+pub fn asked_part(
+    kind: u8,
+    orientation: u8,
+    x: i32,
+    y: i32,
+    label: Label,
+) -> Result<Component, Refusal>
     ensures { part_told result ≡ asked_part kind orientation x y label }
 {
     if !symbol::is_known(kind, orientation) {

@@ -1,13 +1,13 @@
 -- The number and the values of an answer tell which it is: so each contract determines what is answered.
-use mathlib.Core.Path.{◌≡◌, refl, sym, ap, ◌∙◌}
-use Prim.Native.Nat.{ℕ, suc, ◌<◌}
+use mathlib.Core.Path.{◌≡◌, sym, ap}
+use Prim.Native.Nat.{ℕ, suc}
 use native.Mathlib.Omega.{arith}
 use Rattle.std.specs.Prelude.{Option, Some, None, Result, Ok, Err}
 use Rattle.refusal.specs.Numbers.{number_of}
 use Rattle.refusal.specs.declared.Refusal.{Refusal}
 use Rattle.refusal.proofs.Numbers.{refuses, one_refusal}
 use Rattle.cad.specs.Answers.{shape_answer, refused_shape}
-use Rattle.draw.specs.Answers.{Answer, shape_is, chosen}
+use Rattle.draw.specs.Answers.{Answer, shape_is}
 use Rattle.draw.proofs.Answers.{one_choice}
 use Rattle.draw.specs.declared.Draw.{Draw}
 use Rattle.draw.specs.declared.Draw.TheVariants.{Line, Circle}

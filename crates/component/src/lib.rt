@@ -29,6 +29,7 @@ pub struct Corners {
 }
 
 // A component's coordinate as rows hold it, or 0, which is no position.
+#[tactic(auto, using(crate::proofs::Answers::held_at))]
 fn held(x: i32) -> u16
     ensures { result ≡ held_of x }
 {

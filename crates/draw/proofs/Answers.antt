@@ -1,7 +1,5 @@
 -- The values of an answer tell which shape it is, or that it is none: so the contract of `shape` determines what is chosen.
 use mathlib.Core.Path.{◌≡◌, refl, sym, ◌∙◌}
-use Prim.Native.Nat.{ℕ}
-use native.Mathlib.Omega.{arith}
 use mathlib.Core.List.{List, [], ◌∷◌}
 use lib.Ieee.{Float}
 use Rattle.draw.specs.Answers.{chosen, shape_is, no_shape}

@@ -159,7 +159,7 @@ fn coil(i: usize, on: bool) -> Option<Draw>
 }
 
 // Shape i of a kind, 0 Power, 1 Contact, 2 Coil; past the last, and of another kind, no shape. a and b are a contact's A and B, and a is a coil's state.
-#[tactic(auto, using(crate::proofs::Tables::of_coil))]
+#[tactic(auto, using(crate::proofs::Tables::of_power, crate::proofs::Tables::of_contact, crate::proofs::Tables::of_coil, crate::proofs::Tables::of_none))]
 pub fn shape(kind: u8, i: usize, a: bool, b: bool) -> Option<Draw>
     ensures { chosen result ≡ asked i (draws_of kind a b) }
 {

@@ -14,7 +14,6 @@ use mir.Val.{SFits, Fits, to_z, of_z}
 use mir.Facts.{to_z-of_z, to_z_pos}
 use borrow.Author.Tests.{ltb-true, ltb-false, le-leb, lt-leb, leb-true, leb-false}
 use Rattle.edge.specs.Coordinates.{to_ℕ, coord_of, biased, ranged, found, biased_within, is_position, Found, found_in}
-
 use Rattle.lists.proofs.Tests.{reads_as, and_reads, leb_reads, same_test}
 use Rattle.edge.proofs.Whole.{sub_pos, sub_neg, biased_sub, mag_sub}
 

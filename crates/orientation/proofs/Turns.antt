@@ -1,16 +1,15 @@
 -- The laws of the eight orientations: the numbers 0 to 7 and the eight are one to one; a turn of the number is the turn of its four numbers;
 -- four right turns, a left and a right turn, and two mirrors change nothing.
 use mathlib.Core.Path.{◌≡◌, refl, sym, ap, ◌∙◌, subst}
-use Prim.Native.Nat.{ℕ, zero, suc, ◌<◌, ◌≤◌}
-use native.Mathlib.Nat.{le_of_suc-le-suc}
+use Prim.Native.Nat.{ℕ, ◌<◌, ◌≤◌}
 use native.Mathlib.Omega.{arith}
 use mathlib.Core.Bool.{Bool, true, false, cond}
-use mathlib.Core.List.{List, [], ◌∷◌}
+use mathlib.Core.List.{List}
 use lib.Dec.{T, ltb, ltb→lt}
 use lib.IntN.{neg_ℤ-neg_ℤ}
-use lib.ListN.{length, get_or, get_or-eq_default}
+use lib.ListN.{length, get_or-eq_default}
 use borrow.Author.Tests.{lt-ltb, le-ltb}
-use Rattle.std.specs.List.{list_any, list_all}
+use Rattle.std.specs.List.{list_all}
 use Rattle.lists.specs.Span.{span}
 use Rattle.lists.proofs.Tests.{Reads, pass, fail, ltb_reads}
 use Rattle.orientation.specs.Orientations.{rot_mirror, eight, zeros, same_of, known, eighth, number_of, FourNumbers, numbered_of, four_are, no_four, four_answered, Turned, turn_is, no_turn, turn_answered, turn_by, turned_by, rights, lefts, mirrors, right_of, left_of, mirror_of}

@@ -34,10 +34,7 @@ const MIRRORS: [u8; 8] = [4, 7, 6, 5, 0, 3, 2, 1];
 fn of_eight<T: Copy>(table: &[T], n: u8) -> Result<T, Refusal>
     ensures { result ≡ ok_or (slice_get table.now n) Refusal.UnknownSymbol }
 {
-    table
-        .get(n as usize)
-        .copied()
-        .ok_or(Refusal::UnknownSymbol)
+    table.get(n as usize).copied().ok_or(Refusal::UnknownSymbol)
 }
 
 // The four numbers of a number. Two wrong answers that this rules out: 7 given as 3 (numbered_seven_is_three), a number past 7 answered by 1

@@ -9,6 +9,7 @@ use lending::{
     tally_after_wire,
 };
 use line_call::step;
+use refusal::Refusal;
 use schematic::{
     add_component, add_wire, delete_at_point, mirror_component_at_point, rotate_component_at_point,
 };

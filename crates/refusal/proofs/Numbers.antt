@@ -1,6 +1,6 @@
 -- No refusal has the number 0, which says that a call is done, and no two have one number.
 use mathlib.Core.Path.{◌≡◌, refl, sym, ap, ◌∙◌}
-use mathlib.Core.List.{List, [], ◌∷◌}
+use mathlib.Core.List.{[], ◌∷◌}
 use Prim.Native.Nat.{ℕ, ◌<◌}
 use lib.ListN.{get_or}
 use lib.Dec.{T, ltb, ltb→lt}

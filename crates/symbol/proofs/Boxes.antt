@@ -5,7 +5,6 @@ use native.Mathlib.Omega.{arith}
 use mathlib.Core.Bool.{Bool, ◌&&◌}
 use lib.Dec.{T, leb}
 use lib.IntN.{pos, negsuc}
-use Rattle.std.specs.List.{list_all}
 use Rattle.lists.proofs.Tests.{Reads, reads_as, and_reads, test, holds, passes, same_test, leb_reads}
 use Rattle.orientation.specs.Orientations.{eighth, turn_by, mirrors}
 use Rattle.orientation.proofs.Eight.{below_8, test_8}

@@ -105,7 +105,8 @@ fn moved(n: u8, q: Point, x: u16, y: u16) -> Point
     }
 }
 
-// Whether the kind is known and the number is one of the eight orientations': else a call is refused with 4.
+// Whether the kind is known and the number is one of the eight orientations': else a call is refused with 4. Kinds and orientations stay
+// numbers, no enums: rule 1 of the drawing check judges rows that hold any number.
 pub fn is_known(kind: u8, n: u8) -> bool
     ensures { result ≡ known_symbol kind n }
 {
@@ -140,6 +141,7 @@ fn mapped(points: [Point; 3], count: usize, n: u8, x: u16, y: u16) -> [Point; 3]
 }
 
 // The pads of a component that a lawful drawing may hold.
+#[tactic(auto, using(crate::proofs::Tables::mapping, crate::proofs::Tables::pads_made))]
 pub fn pads_at(kind: u8, n: u8, x: u16, y: u16) -> PadBlock
     requires { Placeable kind n x y }
     ensures { result ≡ pad_block kind (eighth n) x y }

@@ -1,5 +1,5 @@
 -- `label::label_of` meets its contract: what is copied, and the zeros behind it.
-use Rattle.std.proofs.Common.{◌≡◌, ◌∙◌, ◌++◌, [], drop, length, arith}
+use Rattle.std.proofs.Common.{◌∙◌, ◌++◌, [], drop, length, arith}
 use Rattle.label.specs.Labels.{label_of, padded}
 use Rattle.label.proofs.Labels.{filled}
 use Rattle.label.proofs.label_of.Goals as goal

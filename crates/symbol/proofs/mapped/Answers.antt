@@ -1,13 +1,12 @@
 -- `symbol::mapped` meets its contract: the loop has mapped the first points, and the next one is as it was.
 use mathlib.Core.Path.{◌≡◌, sym, subst, ap, ◌∙◌}
-use mathlib.Core.List.{List, ◌++◌}
+use mathlib.Core.List.{◌++◌}
 use native.Mathlib.Omega.{arith}
-use Prim.Native.Nat.{ℕ}
-use lib.ListN.{length, get_or, take, drop, length-take}
-use lib.Seq.{get_or-take, take_all}
+use lib.ListN.{get_or, take, drop, length-take}
+use lib.Seq.{get_or-take}
 use Rattle.orientation.specs.Orientations.{eighth}
 use Rattle.symbol.specs.Symbols.{moved_of, unused}
-use Rattle.symbol.specs.Steps.{offset_of, map_first, Near}
+use Rattle.symbol.specs.Steps.{offset_of, Near}
 use Rattle.symbol.specs.declared.Point.{Point}
 use Rattle.symbol.proofs.Tables.{again, still, joined, all_mapped}
 use Rattle.symbol.proofs.mapped.Goals as goal
