@@ -1,5 +1,4 @@
 -- How the lines of rows are put together, and how long they are.
 mod Lengths
 mod Runs
-mod Walk
 mod Examples

@@ -63,3 +63,8 @@ rows_of t d = row_lines t d ++ (46 ∷ 10 ∷ [])
 pub record Puts (most : ℕ) (old : List ℕ) (at : ℕ) (bs new : List ℕ) (next : ℕ) : Type 0 where
   pub put : Put old at bs new next
   pub short : length bs ≤ most
+
+-- what a row puts, and how many bytes at most
+pub record Line (A : Type 0) : Type 0 where
+  pub of : A → List ℕ
+  pub most : ℕ

@@ -1,15 +1,15 @@
 // The rows of a drawing as text in a lent buffer.
 #![tactic(auto)]
 
+mod lines;
 mod rows;
-mod tables;
 
 ghost use Rattle.sheet.specs.Rules.{Lawful};
 ghost use Rattle.dump.specs.Rows.{row_lines, rows_of, Puts, Space};
 
-use rows::put_tally;
+use lines::put_lines;
+use rows::{put_component, put_joint, put_tally, put_wire};
 use sheet::{Drawing, Tally};
-use tables::{put_components, put_joints, put_wires};
 use text::put_byte;
 
 // The tally, each wire, joint and component: 53,294 bytes always suffice. Two wrong answers that this rules out: a wire's end told before its
@@ -19,13 +19,10 @@ pub fn put_row_lines(out: &mut [u8], at: usize, t: Tally, d: Drawing) -> usize
     requires space { Space at 53294 }
     ensures { Puts 53294 out.old at (row_lines t d) out.new result }
 {
-    let ws = d.wires;
-    let js = d.joints;
-    let cs = d.components;
     let p = put_tally(out, at, t);
-    let p = put_wires(out, p, ws);
-    let p = put_joints(out, p, js);
-    put_components(out, p, cs)
+    let p = put_lines(put_wire, out, p, d.wires.in_use());
+    let p = put_lines(put_joint, out, p, d.joints.in_use());
+    put_lines(put_component, out, p, d.components.in_use())
 }
 
 // The same, and the line that ends them.

@@ -1,10 +1,11 @@
 -- A loop that puts the bytes of each row of a table: what is left to put are the bytes of the rows from i on.
-use mathlib.Core.Path.{◌≡◌, ap}
-use mathlib.Core.List.{List, [], ◌++◌}
+use mathlib.Core.Path.{◌≡◌, sym, ap, ◌∙◌}
+use mathlib.Core.List.{List, [], ◌∷◌, ◌++◌}
 use Prim.Native.Nat.{ℕ, ◌+◌, ◌≤◌, ◌<◌}
 use native.Mathlib.Omega.{arith}
 use lib.ListN.{length, get_or, take, drop, length-append}
-use lib.Seq.{sets}
+use lib.Seq.{sets, drop-cons}
+use native.Mathlib.Numerals.{add-one}
 use Rattle.std.specs.List.{flat_map}
 use Rattle.lists.proofs.Walks.{rows_from_lem, rows_past}
 use Rattle.text.specs.Text.{Put}
@@ -33,3 +34,7 @@ module _ {A : Type 0} (g : A → List ℕ) (l : List A) (n i : ℕ) (few : n ≤
 
 pub todo_from : (old : List ℕ) (at : ℕ) {rest bs : List ℕ} → rest ≡ bs → Todo old at rest old at bs
 todo_from old at e = record { bytes = ap (sets old at) e; behind = ap (λ l. at + length l) e }
+
+-- a row of a slice, and those behind it
+pub row_and_rest : {A : Type 0} {x : A} (l : List A) (i : ℕ) → x ≡ get_or l i x → i < length l → drop i l ≡ x ∷ drop (i + 1) l
+row_and_rest {x = x} l i e h = drop-cons l i x h ∙ (λ j. sym e j ∷ drop (sym (add-one i) j) l)
