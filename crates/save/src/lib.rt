@@ -6,7 +6,6 @@ mod rows;
 ghost use Rattle.std.specs.Prelude.{◌≡◌, ◌≤◌, length};
 ghost use Rattle.sheet.specs.Drawings.{lists_of};
 ghost use Rattle.sheet.specs.Rules.{Lawful};
-ghost use Rattle.sheet.specs.Drawings.{wire_rows, component_rows};
 ghost use Rattle.text.specs.Text.{Put, Room};
 ghost use Rattle.saved.specs.File.{wire_bytes, part_bytes, listed, directed, file_of};
 ghost use Rattle.text.specs.Answers.{answer_of, buffer_of};
@@ -15,38 +14,36 @@ ghost use Rattle.saved.specs.Answers.{saved_of, saved_in};
 use groups::put_number;
 use lawful::check;
 use rows::{count_wires, put_components, put_wires};
-use sheet::{Components, Drawing, Wires};
+use sheet::{Component, Drawing, Wire};
 use text::Written;
 
 // The wires of a direction, with their number before them.
-fn put_direction(out: &mut [u8], at: usize, ws: Wires, vertical: bool) -> usize
-    requires few { ws.count ≤ 512 }
-    requires room { Room at (listed wire_bytes (directed vertical (wire_rows ws))) }
-    ensures { Put out.old at (listed wire_bytes (directed vertical (wire_rows ws))) out.new result }
+fn put_direction(out: &mut [u8], at: usize, ws: &[Wire], vertical: bool) -> usize
+    requires few { length ws.now ≤ 512 }
+    requires room { Room at (listed wire_bytes (directed vertical ws.now)) }
+    ensures { Put out.old at (listed wire_bytes (directed vertical ws.now)) out.new result }
 {
-    let p = put_number(out, at, count_wires(ws, vertical));
+    let n = count_wires(ws, vertical);
+    let p = put_number(out, at, n as u32);
     put_wires(out, p, ws, vertical)
 }
 
 // The components, with their number before them.
-fn put_parts(out: &mut [u8], at: usize, cs: Components) -> usize
-    requires few { cs.count ≤ 128 }
-    requires room { Room at (listed part_bytes (component_rows cs)) }
-    ensures { Put out.old at (listed part_bytes (component_rows cs)) out.new result }
+fn put_parts(out: &mut [u8], at: usize, cs: &[Component]) -> usize
+    requires few { length cs.now ≤ 128 }
+    requires room { Room at (listed part_bytes cs.now) }
+    ensures { Put out.old at (listed part_bytes cs.now) out.new result }
 {
-    let n = cs.count;
-    let p = put_number(out, at, n as u32);
+    let p = put_number(out, at, cs.len() as u32);
     put_components(out, p, cs)
 }
 
 // The whole file, of which what fits is written.
-fn put_file(out: &mut [u8], d: Drawing) -> usize
-    requires few { (d.wires.count ≤ 512) × (d.components.count ≤ 128) }
-    requires room { Room 0 (file_of (lists_of d)) }
-    ensures { Put out.old 0 (file_of (lists_of d)) out.new result }
+fn put_file(out: &mut [u8], ws: &[Wire], cs: &[Component]) -> usize
+    requires few { (length ws.now ≤ 512) × (length cs.now ≤ 128) }
+    requires room { Room 0 (file_of (record { wires = ws.now; parts = cs.now })) }
+    ensures { Put out.old 0 (file_of (record { wires = ws.now; parts = cs.now })) out.new result }
 {
-    let ws = d.wires;
-    let cs = d.components;
     let p = put_direction(out, 0, ws, false);
     let p = put_direction(out, p, ws, true);
     put_parts(out, p, cs)
@@ -60,9 +57,11 @@ pub fn save_on(d: Drawing, out: &mut [u8]) -> Written
     ensures written { out.new ≡ buffer_of (file_of (lists_of d)) out.old }
 {
     let mut own = [0u8; 1];
-    let n = put_file(&mut own, d);
+    let ws = d.wires.in_use();
+    let cs = d.components.in_use();
+    let n = put_file(&mut own, ws, cs);
     if n <= out.len() {
-        put_file(out, d);
+        put_file(out, ws, cs);
         return Written {
             reply: 0,
             length: n,

@@ -38,3 +38,10 @@ todo_from old at e = record { bytes = ap (sets old at) e; behind = ap (λ l. at 
 -- a row of a slice, and those behind it
 pub row_and_rest : {A : Type 0} {x : A} (l : List A) (i : ℕ) → x ≡ get_or l i x → i < length l → drop i l ≡ x ∷ drop (i + 1) l
 row_and_rest {x = x} l i e h = drop-cons l i x h ∙ (λ j. sym e j ∷ drop (sym (add-one i) j) l)
+
+-- the bytes of a row, and those of the rows behind it
+pub next_row : {A : Type 0} (g : A → List ℕ) (l : List A) (i : ℕ) (d : A) → i < length l → flat_map g (drop i l) ≡ g (get_or l i d) ++ flat_map g (drop (i + 1) l)
+next_row g l i d h = ap (flat_map g) (drop-cons l i d h ∙ ap (λ k. get_or l i d ∷ drop k l) (sym (add-one i)))
+
+pub next_room : {A : Type 0} (g : A → List ℕ) (l : List A) (i : ℕ) (d : A) → i < length l → length (g (get_or l i d)) ≤ length (flat_map g (drop i l))
+next_room g l i d h = omega (arith, ap length (next_row g l i d h), length-append (g (get_or l i d)) (flat_map g (drop (i + 1) l)))

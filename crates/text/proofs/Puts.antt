@@ -1,5 +1,5 @@
 -- Bytes put into a buffer, one run behind the other; what a loop has still to put; what a whole run leaves in a buffer that holds it.
-use mathlib.Core.Path.{◌≡◌, refl, sym, ap, ap₂, ◌∙◌}
+use mathlib.Core.Path.{◌≡◌, refl, sym, ap, ap₂, subst, ◌∙◌}
 use mathlib.Core.List.{List, [], ◌∷◌, ◌++◌}
 use Prim.Native.Nat.{ℕ, suc, ◌+◌, ◌≤◌}
 use native.Mathlib.Nat.{add-zero}
@@ -40,6 +40,9 @@ todo_step {new} {new'} {rest} {xs} {ys} {old} {bs} {next} {next'} {at} t e p = r
   bytes = ap₂ (λ d n. sets d n ys) p.bytes p.behind ∙ sym (sets_append new next xs ys) ∙ ap (sets new next) (sym e) ∙ t.bytes;
   behind = omega (arith, p.behind, t.behind, length-append xs ys, ap length e);
 }
+
+pub todo_as : {new rest ys old bs : List ℕ} {next at : ℕ} → Todo new next rest old at bs → rest ≡ ys → Todo new next ys old at bs
+todo_as {new} {old = old} {bs} {next} {at} t e = subst (λ l. Todo new next l old at bs) e t
 
 pub todo_done : {new rest old bs : List ℕ} {next at : ℕ} → Todo new next rest old at bs → rest ≡ [] → Put old at bs new next
 todo_done {new} {rest} {old} {bs} {next} {at} t e = record {
