@@ -1,12 +1,11 @@
 // The lines of the list.
-ghost use Rattle.std.specs.Prelude.{map, ◌≤◌};
-ghost use Rattle.sheet.specs.Drawings.{component_rows};
+ghost use Rattle.std.specs.Prelude.{map, ◌≤◌, length};
 ghost use Rattle.text.specs.Text.{Put, Room};
 ghost use Rattle.listing.specs.Listing.{net_word, pin_word, relay, switch, entry, lines_in, kind_lines, nth};
 
 use label::label_part;
 use parts::pads::pads_of_kind;
-use sheet::{Component, Components};
+use sheet::Component;
 use text::{put_byte, put_bytes, put_decimal};
 
 // ` N<net>`
@@ -78,31 +77,20 @@ fn put_part(out: &mut [u8], at: usize, c: Component, kind: u8, n: u16, a: u16, b
 pub(crate) fn put_lines(
     out: &mut [u8],
     at: usize,
-    cs: Components,
+    cs: &[Component],
     numbers: [u16; 384],
     kind: u8,
 ) -> usize
-    requires few { cs.count ≤ 128 }
-    requires room { Room at (kind_lines (nth numbers) kind 0 (map entry (component_rows cs))) }
-    ensures { Put out.old at (kind_lines (nth numbers) kind 0 (map entry (component_rows cs))) out.new result }
+    requires few { length cs.now ≤ 128 }
+    requires room { Room at (kind_lines (nth numbers) kind 0 (map entry cs.now)) }
+    ensures { Put out.old at (kind_lines (nth numbers) kind 0 (map entry cs.now)) out.new result }
 {
-    let count = cs.count;
     let mut next = at;
     let mut pad: usize = 0;
-    let mut i: usize = 0;
-    while i < count {
-        let c = cs.rows[i];
-        next = put_part(
-            out,
-            next,
-            c,
-            kind,
-            numbers[pad],
-            numbers[pad + 1],
-            numbers[pad + 2],
-        );
+    for c in cs {
+        let (n, a, b) = (numbers[pad], numbers[pad + 1], numbers[pad + 2]);
+        next = put_part(out, next, *c, kind, n, a, b);
         pad += pads_of_kind(c.kind);
-        i += 1;
     }
     next
 }
