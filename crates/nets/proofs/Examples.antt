@@ -2,7 +2,6 @@
 use mathlib.Core.Path.{◌≡◌, refl}
 use mathlib.Core.List.{[], ◌∷◌}
 use Prim.Native.Nat.{ℕ}
-use Rattle.std.specs.List.{list_any}
 use Rattle.nets.specs.Nets.{Net}
 use Rattle.nets.specs.Numbers.{merged, net_from, first_net, net_of, rank, meet, number_from, numbering, numbers_of}
 

@@ -1,5 +1,5 @@
 -- Passes over the tables, one pad or one wire at a time.
-use mathlib.Core.Path.{◌≡◌, refl, sym, ap, ap₂, ◌∙◌}
+use mathlib.Core.Path.{◌≡◌, refl, sym, ap, ap₂, subst, ◌∙◌}
 use mathlib.Core.Logic.{⊎_elim}
 use mathlib.Core.List.Memᴰ.{append_cases as ∈-append}
 use mathlib.Core.List.Memᴰ.{append_left as ∈-left}
@@ -11,17 +11,18 @@ use mathlib.Core.List.Memᴰ.{tail as ∈-tail}
 use mathlib.Core.List.{List, [], ◌∷◌, ◌++◌, map}
 use Prim.Native.Nat.{ℕ, ◌+◌, ◌<◌}
 use native.Mathlib.Omega.{arith}
+use native.Mathlib.Nat.{le_refl}
 use lib.ListN.{length, get_or, set, take, length-set}
+use lib.Seq.{take-length}
 use Rattle.lists.specs.Lists.{◌∈◌}
 use Rattle.lists.proofs.Lists.{in_one}
 use Rattle.lists.proofs.Tables.{row_in}
 use Rattle.lists.proofs.Passes.{take_more}
 use Rattle.lists.proofs.Tests.{decide}
 use Rattle.nets.specs.declared.Link.{Link}
-use Rattle.nets.specs.Joined.{Links}
-use Rattle.nets.specs.Joined.{Pads}
+use Rattle.nets.specs.Joined.{Links, Pads}
 use Rattle.nets.specs.Numbers.{first_net}
-use Rattle.nets.specs.Tables.{JointNumber, LinksFit, PadsFit, link_ends, link_rows, pad_rows, tabulate}
+use Rattle.nets.specs.Tables.{JointNumber, EachJoint, EachEnd, link_ends, link_rows, pad_rows, tabulate}
 use Rattle.nets.proofs.Tabulate.{tabulated, tabulate_at, length_tabulate, after_set}
 use Rattle.nets.proofs.Told.{start_reads, start_power, start_other}
 
@@ -36,27 +37,35 @@ map_as (x ∷ xs) h = ap₂ ◌∷◌ (h x (∈-head refl)) (map_as xs (λ y i. 
 
 -- ---- pads
 
-module _ (t : Pads) (long : length t.rows ≡ 384) (padded : PadsFit t) (i : ℕ) (h : i < t.count) where
-  pub pad_joint : JointNumber (get_or t.rows i 0)
-  unfolding pad_rows
-  pad_joint = padded.joints (get_or t.rows i 0) (row_in t.rows t.count i 0 h (omega (arith, padded.room)))
+module _ (ps : List ℕ) (each : EachJoint ps) (i : ℕ) (h : i < length ps) where
+  pub pad_joint : JointNumber (get_or ps i 0)
+  pad_joint = each (get_or ps i 0) (subst (λ l. get_or ps i 0 ∈ l) (take-length ps) (row_in ps (length ps) i 0 h (le_refl (length ps))))
 
-  pub pad_next : take (i + 1) t.rows ≡ take i t.rows ++ (get_or t.rows i 0 ∷ [])
-  pad_next = take_more t.rows i 0 (omega (arith, padded.room))
+  pub pad_next : take (i + 1) ps ≡ take i ps ++ (get_or ps i 0 ∷ [])
+  pad_next = take_more ps i 0 h
 
   -- what f is of the pads passed
-  pub pads_next : (f : ℕ → ℕ) → map f (take (i + 1) t.rows) ≡ map f (take i t.rows) ++ (f (get_or t.rows i 0) ∷ [])
-  pads_next f = ap (map f) pad_next ∙ map_snoc f (take i t.rows) (get_or t.rows i 0)
+  pub pads_next : (f : ℕ → ℕ) → map f (take (i + 1) ps) ≡ map f (take i ps) ++ (f (get_or ps i 0) ∷ [])
+  pads_next f = ap (map f) pad_next ∙ map_snoc f (take i ps) (get_or ps i 0)
 
 -- ---- wires
 
-module _ (t : Links) (long : length t.rows ≡ 512) (wired : LinksFit t) (k : ℕ) (h : k < t.count) (d : Link) where
-  pub wire_joints : JointNumber (get_or t.rows k d).from × JointNumber (get_or t.rows k d).to
-  unfolding link_rows
-  wire_joints = wired.ends (link_ends (get_or t.rows k d)) (∈-map link_ends (row_in t.rows t.count k d h (omega (arith, wired.room))))
+module _ (ws : List Link) (each : EachEnd (map link_ends ws)) (k : ℕ) (h : k < length ws) (d : Link) where
+  pub wire_joints : JointNumber (get_or ws k d).from × JointNumber (get_or ws k d).to
+  wire_joints = each (link_ends (get_or ws k d)) (∈-map link_ends (subst (λ l. get_or ws k d ∈ l) (take-length ws) (row_in ws (length ws) k d h (le_refl (length ws)))))
 
-  pub wire_next : map link_ends (take (k + 1) t.rows) ≡ map link_ends (take k t.rows) ++ (link_ends (get_or t.rows k d) ∷ [])
-  wire_next = ap (map link_ends) (take_more t.rows k d (omega (arith, wired.room))) ∙ map_snoc link_ends (take k t.rows) (get_or t.rows k d)
+  pub wire_next : map link_ends (take (k + 1) ws) ≡ map link_ends (take k ws) ++ (link_ends (get_or ws k d) ∷ [])
+  wire_next = ap (map link_ends) (take_more ws k d h) ∙ map_snoc link_ends (take k ws) (get_or ws k d)
+
+-- ---- the rows in use of the tables
+
+pub rows_links : (t : Links) {ws : List Link} → ws ≡ take t.count t.rows → map link_ends ws ≡ link_rows t
+unfolding link_rows
+rows_links t e = ap (map link_ends) e
+
+pub rows_pads : (t : Pads) {ps : List ℕ} → ps ≡ take t.count t.rows → ps ≡ pad_rows t
+unfolding pad_rows
+rows_pads t e = e
 
 -- ---- the aliases before any wire, one power pad at a time
 

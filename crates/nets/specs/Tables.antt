@@ -13,6 +13,14 @@ pub record JointNumber (n : ℕ) : Type 0 where
   pub low : 0 < n
   pub high : n < 1409
 
+-- each pad is at a joint
+abbrev pub EachJoint : List ℕ → Type 0
+EachJoint ps = (n : ℕ) → n ∈ ps → JointNumber n
+
+-- each wire end is a joint
+abbrev pub EachEnd : List (ℕ × ℕ) → Type 0
+EachEnd ls = (l : ℕ × ℕ) → l ∈ ls → JointNumber l.0 × JointNumber l.1
+
 -- a wire by the numbers of its two joints
 abbrev pub link_ends : Link → ℕ × ℕ
 link_ends l = (l.from, l.to)
@@ -32,12 +40,12 @@ net_in wires powers = record { links = link_rows wires; powers = pad_rows powers
 -- the table is not overfull, and each wire end is a joint
 pub record LinksFit (t : Links) : Type 0 where
   pub room : t.count ≤ 512
-  pub ends : (l : ℕ × ℕ) → l ∈ link_rows t → JointNumber l.0 × JointNumber l.1
+  pub ends : EachEnd (link_rows t)
 
 -- the table is not overfull, and each pad is at a joint
 pub record PadsFit (t : Pads) : Type 0 where
   pub room : t.count ≤ 384
-  pub joints : (n : ℕ) → n ∈ pad_rows t → JointNumber n
+  pub joints : EachJoint (pad_rows t)
 
 -- f of 0, 1, .. below n
 unfoldable pub tabulate : (ℕ → ℕ) → ℕ → List ℕ

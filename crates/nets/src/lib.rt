@@ -1,11 +1,11 @@
 // Which pads are on one net, and the numbers of the nets. Wires and pads come by the numbers of their joints: row + 1.
 #![tactic(auto)]
 
-ghost use Rattle.std.specs.Prelude.{◌≡◌, List, map, ℕ, ◌<◌, get_or};
+ghost use Rattle.std.specs.Prelude.{◌≡◌, List, map, ℕ, ◌<◌, ◌≤◌, length, get_or};
 ghost use Rattle.lists.specs.Tables.{pad};
 ghost use Rattle.nets.specs.Numbers;
 ghost use Rattle.nets.specs.Numbers.{first_net, net_of, numbering, numbers_of};
-ghost use Rattle.nets.specs.Tables.{JointNumber, LinksFit, PadsFit, net_in, pad_rows, tabulate, Falling, root_of, join_of, Rooted, Ranked};
+ghost use Rattle.nets.specs.Tables.{JointNumber, EachJoint, EachEnd, LinksFit, PadsFit, link_ends, net_in, pad_rows, tabulate, Falling, root_of, join_of, Rooted, Ranked};
 
 use table::Table;
 
@@ -51,41 +51,33 @@ fn own() -> [u16; 1409]
     ensures { result ≡ tabulate (λ n. n) 1409 }
 {
     let mut alias = [0u16; 1409];
-    let mut n: usize = 0;
-    while n < 1409 {
+    for n in 0..1409usize {
         alias[n] = n as u16;
-        n += 1;
     }
     alias
 }
 
 // The aliases before any wire: 0 at a joint with a power pad, and its own number at any other.
-fn start(powers: Pads) -> [u16; 1409]
-    requires { PadsFit powers }
-    ensures { result ≡ tabulate (first_net (pad_rows powers)) 1409 }
+fn start(powers: &[u16]) -> [u16; 1409]
+    requires { EachJoint powers.now }
+    ensures { result ≡ tabulate (first_net powers.now) 1409 }
 {
     let mut alias = own();
-    let mut i: usize = 0;
-    while i < powers.count {
-        let n = powers.rows[i];
-        alias[n as usize] = 0;
-        i += 1;
+    for n in powers {
+        alias[*n as usize] = 0;
     }
     alias
 }
 
 // The aliases after all the wires.
-fn aliases(wires: Links, powers: Pads) -> [u16; 1409]
-    requires links_fit { LinksFit wires }
-    requires powers_fit { PadsFit powers }
-    ensures { Rooted (net_in wires powers) result }
+fn aliases(wires: &[Link], powers: &[u16]) -> [u16; 1409]
+    requires ends { EachEnd (map link_ends wires.now) }
+    requires joints { EachJoint powers.now }
+    ensures { Rooted (record { links = map link_ends wires.now; powers = powers.now }) result }
 {
     let mut alias = start(powers);
-    let mut k: usize = 0;
-    while k < wires.count {
-        let wire = wires.rows[k];
+    for wire in wires {
         join(&mut alias, wire.from, wire.to);
-        k += 1;
     }
     alias
 }
@@ -96,11 +88,9 @@ fn flatten(alias: [u16; 1409]) -> [u16; 1409]
     ensures { result ≡ tabulate (root_of alias) 1409 }
 {
     let mut nets = alias;
-    let mut n: usize = 0;
-    while n < 1409 {
+    for n in 0..1409usize {
         let less = nets[n];
         nets[n] = nets[less as usize];
-        n += 1;
     }
     nets
 }
@@ -111,7 +101,7 @@ pub fn nets(wires: Links, powers: Pads) -> [u16; 1409]
     requires powers_fit { PadsFit powers }
     ensures { result ≡ tabulate (net_of (net_in wires powers)) 1409 }
 {
-    flatten(aliases(wires, powers))
+    flatten(aliases(wires.in_use(), powers.in_use()))
 }
 
 // A net is met: a new one gets the next rank. The number of nets met, and `given` has the rank of each.
@@ -128,21 +118,19 @@ fn meet(given: &mut [u16; 1409], count: u16, net: u16) -> u16
 }
 
 // The numbers of the pads' nets in the order in which these are met, 0 for net 0; and zeros behind them.
-fn number(nets: [u16; 1409], pads: Pads) -> [u16; 384]
+fn number(nets: [u16; 1409], pads: &[u16]) -> [u16; 384]
     requires falling { Falling nets }
-    requires pads_fit { PadsFit pads }
-    ensures { result ≡ pad 384 0 (numbering (map (λ n. get_or nets n 0) (pad_rows pads))) }
+    requires few { length pads.now ≤ 384 }
+    requires joints { EachJoint pads.now }
+    ensures { result ≡ pad 384 0 (numbering (map (λ n. get_or nets n 0) pads.now)) }
 {
     let mut out = [0u16; 384];
     let mut given = [0u16; 1409];
     let mut count = meet(&mut given, 0, 0);
-    let mut i: usize = 0;
-    while i < pads.count {
-        let n = pads.rows[i];
-        let net = nets[n as usize];
+    for (i, n) in pads.iter().enumerate() {
+        let net = nets[*n as usize];
         count = meet(&mut given, count, net);
         out[i] = given[net as usize] - 1;
-        i += 1;
     }
     out
 }
@@ -154,5 +142,5 @@ pub fn pad_nets(wires: Links, powers: Pads, pads: Pads) -> [u16; 384]
     requires pads_fit { PadsFit pads }
     ensures { result ≡ pad 384 0 (numbers_of (net_in wires powers) (pad_rows pads)) }
 {
-    number(nets(wires, powers), pads)
+    number(nets(wires, powers), pads.in_use())
 }
