@@ -4,9 +4,10 @@ use native.Mathlib.Omega.{arith}
 use mathlib.Core.List.{List}
 use mathlib.Core.Path.{◌≡◌, sym, ap, subst, ◌∙◌}
 use mathlib.Core.Logic.{◌⊎◌, inl, inr}
-use lib.ListN.{length, get_or, length-take}
+use lib.ListN.{length, get_or, take, length-take}
+use Rattle.std.proofs.lemmas.List.{get_or-take, length-take-le}
 use Rattle.lists.specs.Lists.{◌∈◌}
-use Rattle.lists.proofs.Tests.{compare}
+use Rattle.lists.proofs.Tests.{compare, decide, ltb_reads}
 use Rattle.symbol.specs.declared.Point.{Point}
 use Rattle.sheet.specs.Tables.{Joints}
 use Rattle.sheet.specs.Points.{Rise, lower, level}
@@ -32,42 +33,37 @@ key_rises k l (level e h) = omega arith
 
 -- ---- the search
 
--- with the key's place from low on and below high, of which mid is one
-pub record Between (keys : List ℕ) (n k low high : ℕ) : Type 0 where
-  pub order : (low ≤ high) × (low < 1408)
-  pub top : high ≤ n
-  pub only : (m : ℕ) → m < n → get_or keys m 0 ≡ k → (low ≤ m) × (m < high)
+module _ {keys : List ℕ} {n : ℕ} (h : Ascending keys n) (room : n ≤ length keys) where
+  -- what stands at a place among the first n
+  at_place : (i : ℕ) → i < n → get_or (take n keys) i 0 ≡ get_or keys i 0
+  at_place i lt = get_or-take n keys i 0 lt
 
-module _ {keys : List ℕ} {n : ℕ} (h : Ascending keys n) {k : ℕ} where
-  pub between_all : Between keys n k 0 n
-  between_all = record { order = (omega arith, omega arith); top = omega arith; only = λ m lt e. (omega arith, lt) }
+  size : length (take n keys) ≡ n
+  size = length-take-le n keys room
 
-  pub between_high : {low high : ℕ} (mid : ℕ) → Between keys n k low high → low < mid → mid < high → k < get_or keys mid 0 → Between keys n k low mid
-  between_high {low} {high} mid b a c lt = record {
-    order = (omega arith, b.order.1);
-    top = omega (arith, b.top);
-    only = λ m g e. ((b.only m g e).0, below m g e (compare mid m));
-  }
+  pub rising : (i j : ℕ) → i ≤ j → j < length (take n keys) → get_or (take n keys) i 0 ≤ get_or (take n keys) j 0
+  rising i j le lt = order (compare i j)
     where
-      below : (m : ℕ) → m < n → get_or keys m 0 ≡ k → (mid < m) ⊎ ((mid ≡ m) ⊎ (m < mid)) → m < mid
-      below m g e (inl x) = absurd (omega (arith, h.rise mid m x g))
-      below m g e (inr (inl x)) = absurd (omega (arith, ap (λ i. get_or keys i 0) x))
-      below m g e (inr (inr x)) = x
+      order : (i < j) ⊎ ((i ≡ j) ⊎ (j < i)) → get_or (take n keys) i 0 ≤ get_or (take n keys) j 0
+      order (inl x) = omega (arith, h.rise i j x (omega (arith, size)), at_place i (omega (arith, size)), at_place j (omega (arith, size)))
+      order (inr (inl x)) = omega (arith, ap (λ m. get_or (take n keys) m 0) x)
+      order (inr (inr x)) = absurd (omega arith)
 
-  pub between_low : {low high : ℕ} (mid : ℕ) → Between keys n k low high → low < mid → mid < high → get_or keys mid 0 ≤ k → Between keys n k mid high
-  between_low {low} {high} mid b a c le = record {
-    order = (omega arith, omega (arith, b.top, h.room));
-    top = b.top;
-    only = λ m g e. (above m g e (compare mid m), (b.only m g e).1);
-  }
-    where
-      above : (m : ℕ) → m < n → get_or keys m 0 ≡ k → (mid < m) ⊎ ((mid ≡ m) ⊎ (m < mid)) → mid ≤ m
-      above m g e (inl x) = omega arith
-      above m g e (inr (inl x)) = omega arith
-      above m g e (inr (inr x)) = absurd (omega (arith, h.rise m mid x (omega (arith, b.top))))
+  module _ {k : ℕ} where
+    pub found_at : {i : ℕ} → (i < length (take n keys)) × (get_or (take n keys) i 0 ≡ k) → IndexOf keys n k i
+    found_at {i} f = record { low = omega (arith, f.0, size, h.room); only = λ m lt e. same m lt e (compare i m) }
+      where
+        same : (m : ℕ) → m < n → get_or keys m 0 ≡ k → (i < m) ⊎ ((i ≡ m) ⊎ (m < i)) → i ≡ m
+        same m lt e (inl x) = absurd (omega (arith, h.rise i m x lt, f.0, f.1, size, at_place i (omega (arith, f.0, size))))
+        same m lt e (inr (inl x)) = x
+        same m lt e (inr (inr x)) = absurd (omega (arith, h.rise m i x (omega (arith, f.0, size)), f.1, at_place i (omega (arith, f.0, size))))
 
-  pub between_one : {low high : ℕ} → Between keys n k low high → high ≤ low + 1 → IndexOf keys n k low
-  between_one b e = record { low = b.order.1; only = λ m g q. let r = b.only m g q in omega arith }
+    pub found_nowhere : {i : ℕ} → (i ≤ length (take n keys)) × ((m : ℕ) → m < i → get_or (take n keys) m 0 < k) × ((m : ℕ) → i ≤ m → m < length (take n keys) → k < get_or (take n keys) m 0) → IndexOf keys n k 0
+    found_nowhere {i} f = record { low = omega arith; only = λ m lt e. absurd (nowhere m lt e (decide (ltb_reads m i))) }
+      where
+        nowhere : (m : ℕ) → m < n → get_or keys m 0 ≡ k → (m < i) ⊎ (m < i → ⊥) → ⊥
+        nowhere m lt e (inl x) = omega (arith, f.1 m x, at_place m lt)
+        nowhere m lt e (inr x) = omega (arith, f.2 m (omega (arith, x)) (omega (arith, size)), at_place m lt)
 
 -- ---- numbers
 

@@ -21,22 +21,16 @@ use symbol::Point;
 use wires::Points;
 use wires::geometry::{high_tip, low_tip};
 
-// The place of a key among rising ones, by halving.
+// The place of a key among rising ones, if it has one.
 fn find(keys: &[u64; 1408], n: usize, k: u64) -> usize
     requires { Ascending keys.now n }
     ensures { IndexOf keys.now n k result }
 {
-    let mut low = 0;
-    let mut high = n;
-    while low + 1 < high {
-        let mid = (low + high) / 2;
-        if k < keys[mid] {
-            high = mid;
-        } else {
-            low = mid;
-        }
+    let rising = &keys[..n];
+    match rising.binary_search(&k) {
+        Ok(i) => i,
+        Err(_) => 0,
     }
-    low
 }
 
 // The number of the joint at a point: its row, counted from 1.
@@ -58,13 +52,11 @@ fn links(ws: Wires, js: Joints) -> Links
     let n = ws.count;
     let zero = Link { from: 0, to: 0 };
     let mut rows = [zero; 512];
-    let mut i = 0;
-    while i < n {
+    for i in 0..n {
         let w = ws.rows[i];
         let from = number_of(&keys, js.count, low_tip(w));
         let to = number_of(&keys, js.count, high_tip(w));
         rows[i] = Link { from, to };
-        i += 1;
     }
     Links { rows, count: n }
 }
@@ -77,11 +69,9 @@ fn joint_numbers(ps: Points, js: Joints) -> Pads
     let keys = joint_keys(js);
     let n = ps.count;
     let mut rows = [0u16; 384];
-    let mut i = 0;
-    while i < n {
+    for i in 0..n {
         let p = ps.rows[i];
         rows[i] = number_of(&keys, js.count, p);
-        i += 1;
     }
     Pads { rows, count: n }
 }
@@ -91,17 +81,12 @@ fn powers(cs: Components) -> Components
     requires { cs.count ≤ 128 }
     ensures { TabledParts (filter is_power (component_rows cs)) result }
 {
-    let n = cs.count;
     let mut out = no_parts();
-    let mut i = 0;
-    while i < n {
+    for i in 0..cs.count {
         let c = cs.rows[i];
         if c.kind == 0 {
-            let k = out.count;
-            out.rows[k] = c;
-            out.count = k + 1;
+            out.push(c);
         }
-        i += 1;
     }
     out
 }

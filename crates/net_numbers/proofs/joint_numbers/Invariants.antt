@@ -1,5 +1,4 @@
 -- `net_numbers::joint_numbers` meets its contract: the rows so far are the numbers of the points passed.
-use Prim.Native.Nat.{◌≤◌, ◌-◌}
 use mathlib.Core.Path.{◌≡◌}
 use lib.ListN.{length}
 use Rattle.sheet.specs.Drawings.{joint_rows}
@@ -11,7 +10,4 @@ use Rattle.net_numbers.proofs.joint_numbers.Given as goal
 
 abbrev pub invariant-loop-i : goal.invariant-loop-i
 invariant-loop-i l =
-    (l.i ≤ l.n) × (length l.ps.rows ≡ 384) × (length l.rows ≡ 384) × Ready (point_rows l.ps) l.js l.keys × Filled (λ k. k) (number_of_joint (joint_rows l.js)) l.ps.rows l.i l.rows
-
-abbrev pub decreases-loop-i : goal.decreases-loop-i
-decreases-loop-i l = l.n - l.i
+    (length l.ps.rows ≡ 384) × (length l.rows ≡ 384) × Ready (point_rows l.ps) l.js l.keys × Filled (λ k. k) (number_of_joint (joint_rows l.js)) l.ps.rows l.i l.rows

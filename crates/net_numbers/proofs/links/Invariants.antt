@@ -1,5 +1,4 @@
 -- `net_numbers::links` meets its contract: the rows so far are the numbers at the ends of the wires passed.
-use Prim.Native.Nat.{◌≤◌, ◌-◌}
 use mathlib.Core.Path.{◌≡◌}
 use lib.ListN.{length}
 use Rattle.sheet.specs.Geometry.{ends}
@@ -12,7 +11,4 @@ use Rattle.net_numbers.proofs.links.Given as goal
 
 abbrev pub invariant-loop-i : goal.invariant-loop-i
 invariant-loop-i l =
-    (l.i ≤ l.n) × (length l.ws.rows ≡ 512) × (length l.rows ≡ 512) × Ready (ends (wire_rows l.ws)) l.js l.keys × Filled link_ends (numbers_of (joint_rows l.js)) l.ws.rows l.i l.rows
-
-abbrev pub decreases-loop-i : goal.decreases-loop-i
-decreases-loop-i l = l.n - l.i
+    (length l.ws.rows ≡ 512) × (length l.rows ≡ 512) × Ready (ends (wire_rows l.ws)) l.js l.keys × Filled link_ends (numbers_of (joint_rows l.js)) l.ws.rows l.i l.rows

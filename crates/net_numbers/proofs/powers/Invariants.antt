@@ -1,5 +1,5 @@
 -- `net_numbers::powers` meets its contract: the power symbols among the rows passed.
-use Prim.Native.Nat.{◌≤◌, ◌-◌}
+use Prim.Native.Nat.{◌≤◌}
 use mathlib.Core.Path.{◌≡◌}
 use lib.ListN.{length}
 use Rattle.lists.proofs.Passes.{Pass, only}
@@ -8,7 +8,4 @@ use Rattle.net_numbers.specs.Netted.{is_power}
 use Rattle.net_numbers.proofs.powers.Given as goal
 
 abbrev pub invariant-loop-i : goal.invariant-loop-i
-invariant-loop-i l = (l.i ≤ l.n) × (length l.cs.rows ≡ 128) × (l.out.count ≤ l.i) × Pass TabledParts (only is_power) l.cs.rows l.i l.out
-
-abbrev pub decreases-loop-i : goal.decreases-loop-i
-decreases-loop-i l = l.n - l.i
+invariant-loop-i l = (length l.cs.rows ≡ 128) × (l.out.count ≤ l.i) × Pass TabledParts (only is_power) l.cs.rows l.i l.out
