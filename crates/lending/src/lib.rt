@@ -3,12 +3,15 @@
 #![tactic(auto)]
 
 ghost use Rattle.std.specs.Prelude.{◌≡◌};
+ghost use Rattle.std.specs.Fn.{FnOnceReturnsAtMut};
+ghost use Rattle.redraw.specs.declared.Edited.{Edited};
 ghost use Rattle.redraw.specs.Calls.{add_wire, add_component, delete_at, rotate_at, mirror_at};
 ghost use Rattle.schematic.specs.Calls.{checked};
 ghost use Rattle.lent.specs.Noting.{noted};
 ghost use Rattle.lending.specs.Nines.{nines};
 
 use label::Label;
+use redraw::Edited;
 use sheet::{Drawing, Tally};
 
 const NINES: Tally = Tally {
@@ -18,13 +21,21 @@ const NINES: Tally = Tally {
     ends: 9,
 };
 
+// The nines, after the edit that they are lent to.
+fn nines_after<F: FnOnce(&mut Tally) -> Edited>(edit: F) -> Tally
+    requires { F.IsAlwaysCallable edit }
+    ensures { (r : Edited) × FnOnceReturnsAtMut F.FnOnce edit nines r result }
+{
+    let mut t = NINES;
+    edit(&mut t);
+    t
+}
+
 // The tally after "Wire."
 pub fn tally_after_wire(d: Drawing, vertical: bool, line: i32, start: i32, end: i32) -> Tally
     ensures { result ≡ noted nines (checked d nines (add_wire d vertical line start end nines)) }
 {
-    let mut t = NINES;
-    lent::add_wire(d, vertical, line, start, end, &mut t);
-    t
+    nines_after(|t| lent::add_wire(d, vertical, line, start, end, t))
 }
 
 // The tally after "Place."
@@ -38,34 +49,26 @@ pub fn tally_after_component(
 ) -> Tally
     ensures { result ≡ noted nines (checked d nines (add_component d kind orientation x y label nines)) }
 {
-    let mut t = NINES;
-    lent::add_component(d, kind, orientation, x, y, label, &mut t);
-    t
+    nines_after(|t| lent::add_component(d, kind, orientation, x, y, label, t))
 }
 
 // The tally after "Delete."
 pub fn tally_after_delete(d: Drawing, x: i32, y: i32, size: i32) -> Tally
     ensures { result ≡ noted nines (checked d nines (delete_at d x y size nines)) }
 {
-    let mut t = NINES;
-    lent::delete_at_point(d, x, y, size, &mut t);
-    t
+    nines_after(|t| lent::delete_at_point(d, x, y, size, t))
 }
 
 // The tally after a turn.
 pub fn tally_after_turn(d: Drawing, x: i32, y: i32, size: i32) -> Tally
     ensures { result ≡ noted nines (checked d nines (rotate_at d x y size nines)) }
 {
-    let mut t = NINES;
-    lent::rotate_component_at_point(d, x, y, size, &mut t);
-    t
+    nines_after(|t| lent::rotate_component_at_point(d, x, y, size, t))
 }
 
 // The tally after a mirroring.
 pub fn tally_after_mirror(d: Drawing, x: i32, y: i32, size: i32) -> Tally
     ensures { result ≡ noted nines (checked d nines (mirror_at d x y size nines)) }
 {
-    let mut t = NINES;
-    lent::mirror_component_at_point(d, x, y, size, &mut t);
-    t
+    nines_after(|t| lent::mirror_component_at_point(d, x, y, size, t))
 }
