@@ -6,8 +6,7 @@ use Prim.Native.String.{String}
 use Rattle.edge.specs.Coordinates.{biased}
 use Rattle.script.specs.Grammar.{bytes}
 use Rattle.script.specs.Reading.{digits_of, whole_of, signed_numeral, numeral_of, field_of}
-use Rattle.check_script.specs.declared.Said.{Said}
-use Rattle.check_script.specs.declared.Said.TheVariants.{Wire, Component, Joint, WireCount, ComponentCount, JointCount, End, Unreadable}
+use Rattle.check_script.specs.Saying.{Said, Wire, Component, Joint, WireCount, ComponentCount, JointCount, End, Unreadable}
 use Rattle.check_script.specs.Reading.{fitted, fitted_field, vertical_of, direction_of, wire_of, joint_of, labelled_row, stands_of, component_of, row_of, counted_of, count_of, line_said, said_of}
 
 examples : List (String × Said)

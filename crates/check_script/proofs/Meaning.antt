@@ -12,8 +12,7 @@ use Rattle.lists.proofs.Tests.{choose, leb_reads, eqb_reads, clash}
 use Rattle.script.specs.Grammar.{byte, bytes, IsNumber, ◌␣◌}
 use Rattle.script.specs.Reading.{found, then, field_of, ending}
 use Rattle.script.proofs.Parts.{end, behind_by, field_by, field_is}
-use Rattle.check_script.specs.declared.Said.{Said}
-use Rattle.check_script.specs.declared.Said.TheVariants.{Unreadable}
+use Rattle.check_script.specs.Saying.{Said, Unreadable}
 use Rattle.check_script.specs.Counts.{Table, wires, components, joints}
 use Rattle.check_script.specs.Grammar as g
 use Rattle.check_script.specs.Grammar.{IsRow, IsDrawingLine, IsSaid, readable, unreadable}

@@ -13,8 +13,7 @@ use Rattle.lists.proofs.Tests.{choose, leb_reads, eqb_reads}
 use Rattle.script.specs.Grammar.{byte, HasLabel, none, some}
 use Rattle.script.specs.Reading.{Front, found, missing, then, ending}
 use Rattle.script.proofs.Parts.{Stops, end, space, behind_by, field_by, field_is}
-use Rattle.check_script.specs.declared.Said.{Said}
-use Rattle.check_script.specs.declared.Said.TheVariants.{Unreadable}
+use Rattle.check_script.specs.Saying.{Said, Unreadable}
 use Rattle.check_script.specs.Grammar.{IsHeld, holds, IsDirection, horizontal, vertical}
 use Rattle.check_script.specs.Reading.{fitted, fitted_field, vertical_of, direction_of, labelled_row}
 

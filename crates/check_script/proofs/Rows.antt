@@ -8,8 +8,7 @@ use lib.ListN.{length, length-append}
 use Rattle.lists.proofs.Tests.{clash}
 use Rattle.script.specs.Grammar.{byte, bytes, ◌␣◌}
 use Rattle.script.proofs.Parts.{space, behind_by}
-use Rattle.check_script.specs.declared.Said.{Said}
-use Rattle.check_script.specs.declared.Said.TheVariants.{Component, Unreadable}
+use Rattle.check_script.specs.Saying.{Said, Component, Unreadable}
 use Rattle.check_script.specs.Grammar.{IsRow, wire, component, joint}
 use Rattle.check_script.specs.Reading.{wire_of, joint_of, stands_of, component_of, row_of}
 use Rattle.check_script.proofs.Parts.{held_by, direction_by, ending_by, label_by, held_is, held_last, direction_is, label_stops, label_is}

@@ -4,8 +4,7 @@ use Rattle.std.specs.Prelude.{◌≡◌, Bool, true, false, List, [], ◌∷◌,
 use Prim.Native.Char.{Char}
 use Rattle.edge.specs.Coordinates.{to_ℕ, biased}
 use Rattle.script.specs.Grammar.{byte, bytes, IsNumber, ◌␣◌, HasLabel}
-use Rattle.check_script.specs.declared.Said.{Said}
-use Rattle.check_script.specs.declared.Said.TheVariants.{Wire, Component, Joint, End, Unreadable}
+use Rattle.check_script.specs.Saying.{Said, Wire, Component, Joint, End, Unreadable}
 use Rattle.check_script.specs.Counts.{Table}
 use Rattle.check_script.specs.Reading.{fitted}
 

@@ -1,4 +1,4 @@
+pub mod Saying
 pub mod Counts
 pub mod Reading
-pub mod Indexes
 pub mod Grammar

@@ -1,10 +1,9 @@
 -- "Numbers and rows": what a line of a drawing says, as a function: `said_of` gives what the grammar says (proofs/Meaning.antt).
-use Rattle.std.specs.Prelude.{Bool, true, false, cond, List, [], ◌∷◌, ℕ, ◌-◌, length, ℤ, pos, negsuc, leb, ltb, eqb}
+use Rattle.std.specs.Prelude.{Bool, true, false, cond, Option, Some, None, List, [], ◌∷◌, ℕ, ◌-◌, length, ℤ, pos, negsuc, leb, ltb, eqb}
 use Rattle.edge.specs.Coordinates.{to_ℕ, biased}
 use Rattle.script.specs.Grammar.{byte}
 use Rattle.script.specs.Reading.{Front, found, missing, then, after_byte, field_of, ending}
-use Rattle.check_script.specs.declared.Said.{Said}
-use Rattle.check_script.specs.declared.Said.TheVariants.{Wire, Component, Joint, WireCount, ComponentCount, JointCount, End, Unreadable}
+use Rattle.check_script.specs.Saying.{Said, Wire, Component, Joint, WireCount, ComponentCount, JointCount, End, Unreadable}
 
 -- ---- numbers that a row can hold
 
@@ -12,6 +11,10 @@ use Rattle.check_script.specs.declared.Said.TheVariants.{Wire, Component, Joint,
 unfoldable pub fitted : ℕ → ℕ → ℤ → Bool
 fitted low high (pos n) = leb n high
 fitted low high (negsuc n) = ltb n low
+
+-- a number from −low to high, as f has it
+abbrev pub held_as : {A : Type 0} → ℕ → ℕ → (ℤ → A) → ℤ → Option A
+held_as low high f z = cond (fitted low high z) (Some (f z)) None
 
 -- a space and such a number, as f has it
 unfoldable pub fitted_field : {A : Type 0} → ℕ → ℕ → (ℤ → A) → List ℕ → Front A

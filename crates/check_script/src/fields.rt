@@ -1,100 +1,70 @@
-// Numbers of a line that a row can hold, each read from an index of the line on.
-ghost use Rattle.std.specs.Prelude.{◌≡◌, drop};
-ghost use Rattle.check_script.specs.Reading.{coordinate_of, natural_of, byte_of, vertical_of, direction_of};
-ghost use Rattle.check_script.specs.Indexes.{natural_found, byte_found, direction_found};
+// The parts of a row, each read at the front of a text: with it comes the text behind.
+ghost use Rattle.std.specs.Prelude.{◌≡◌};
+ghost use Rattle.script.specs.Fronts.{front};
+ghost use Rattle.edge.specs.Coordinates.{biased, to_ℕ};
+ghost use Rattle.check_script.specs.Reading.{held_as, coordinate_of, natural_of, byte_of, direction_of};
 
 use script::numbers;
-use script::numbers::Numeral;
 
-// A number of 16 bits, and the index behind it.
-#[derive(Clone, Copy)]
-pub enum Natural {
-    Read(u16, usize),
-    Missing,
-}
-
-// A number of 8 bits, and the index behind it.
-#[derive(Clone, Copy)]
-pub enum Byte {
-    Is(u8, usize),
-    IsNot,
-}
-
-// Whether a wire is vertical, and the index behind the letter that says it.
-#[derive(Clone, Copy)]
-pub enum Direction {
-    Vertical(bool, usize),
-    Neither,
-}
-
-// A space and a coordinate, as rows hold it.
-pub fn coordinate_at(line: &[u8], at: usize) -> Natural
-    ensures { natural_found line.now result ≡ coordinate_of (drop at line.now) }
+// A coordinate as rows hold it: 6,000 more, in 16 bits.
+#[tactic(auto, unfolding(crate::specs::Reading::fitted, edge::specs::Coordinates::biased))]
+fn held_coordinate(z: i32) -> Option<u16>
+    ensures { result ≡ held_as 6000 59535 biased z }
 {
-    let Numeral::Read(z, next) = numbers::field_at(line, at) else {
-        return Natural::Missing;
-    };
-    if z < -6000 {
-        return Natural::Missing;
-    }
-    if 59535 < z {
-        return Natural::Missing;
-    }
-    Natural::Read((z + 6000) as u16, next)
+    u16::try_from(z.checked_add(6000)?).ok()
 }
 
-// A space and a number that is not negative.
-pub fn natural_at(line: &[u8], at: usize) -> Natural
-    ensures { natural_found line.now result ≡ natural_of (drop at line.now) }
+// A number of 16 bits.
+#[tactic(auto, unfolding(crate::specs::Reading::fitted))]
+fn held_natural(z: i32) -> Option<u16>
+    ensures { result ≡ held_as 0 65535 to_ℕ z }
 {
-    let Numeral::Read(z, next) = numbers::field_at(line, at) else {
-        return Natural::Missing;
-    };
-    if z < 0 {
-        return Natural::Missing;
-    }
-    if 65535 < z {
-        return Natural::Missing;
-    }
-    Natural::Read(z as u16, next)
+    u16::try_from(z).ok()
+}
+
+// A number of 8 bits.
+#[tactic(auto, unfolding(crate::specs::Reading::fitted))]
+fn held_byte(z: i32) -> Option<u8>
+    ensures { result ≡ held_as 0 255 to_ℕ z }
+{
+    u8::try_from(z).ok()
+}
+
+// A space and a coordinate.
+#[tactic(auto, unfolding(crate::specs::Reading::fitted_field))]
+pub fn coordinate(text: &[u8]) -> Option<(u16, &[u8])>
+    ensures { front result ≡ coordinate_of text.now }
+{
+    let (z, rest) = numbers::field(text)?;
+    Some((held_coordinate(z)?, rest))
+}
+
+// A space and a number of 16 bits.
+#[tactic(auto, unfolding(crate::specs::Reading::fitted_field))]
+pub fn natural(text: &[u8]) -> Option<(u16, &[u8])>
+    ensures { front result ≡ natural_of text.now }
+{
+    let (z, rest) = numbers::field(text)?;
+    Some((held_natural(z)?, rest))
 }
 
 // A space and a number of 8 bits.
-#[tactic(auto, using(crate::proofs::Ranges::above_byte))]
-pub fn byte_at(line: &[u8], at: usize) -> Byte
-    ensures { byte_found line.now result ≡ byte_of (drop at line.now) }
+#[tactic(auto, unfolding(crate::specs::Reading::fitted_field))]
+pub fn byte(text: &[u8]) -> Option<(u8, &[u8])>
+    ensures { front result ≡ byte_of text.now }
 {
-    let Numeral::Read(z, next) = numbers::field_at(line, at) else {
-        return Byte::IsNot;
-    };
-    if z < 0 {
-        return Byte::IsNot;
-    }
-    if 255 < z {
-        return Byte::IsNot;
-    }
-    Byte::Is(z as u8, next)
+    let (z, rest) = numbers::field(text)?;
+    Some((held_byte(z)?, rest))
 }
 
-// `h` or `v`.
-fn letter_at(line: &[u8], at: usize) -> Direction
-    ensures { direction_found line.now result ≡ vertical_of (drop at line.now) }
+// A space and `h` or `v`: whether the wire is vertical.
+#[tactic(auto, unfolding(crate::specs::Reading::direction_of, crate::specs::Reading::vertical_of))]
+pub fn direction(text: &[u8]) -> Option<(bool, &[u8])>
+    ensures { front result ≡ direction_of text.now }
 {
-    if numbers::is_at(line, at, b'h') {
-        return Direction::Vertical(false, at + 1);
+    match text {
+        [b' ', b'h', rest @ ..] => Some((false, rest)),
+        [b' ', b'v', rest @ ..] => Some((true, rest)),
+        _ => None,
     }
-    if numbers::is_at(line, at, b'v') {
-        return Direction::Vertical(true, at + 1);
-    }
-    Direction::Neither
-}
-
-// A space and `h` or `v`.
-pub fn direction_at(line: &[u8], at: usize) -> Direction
-    ensures { direction_found line.now result ≡ direction_of (drop at line.now) }
-{
-    if numbers::is_at(line, at, b' ') {
-        return letter_at(line, at + 1);
-    }
-    Direction::Neither
 }

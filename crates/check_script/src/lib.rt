@@ -4,16 +4,16 @@
 
 pub mod fields;
 
-ghost use Rattle.std.specs.Prelude.{◌≡◌, length, drop};
-ghost use Rattle.check_script.specs.declared.Said.TheVariants.{Component};
-ghost use Rattle.check_script.specs.Reading.{wire_of, joint_of, labelled_row, stands_of, component_of, row_of, counted_of, count_of, said_of};
+ghost use Rattle.std.specs.Prelude.{◌≡◌, ℕ, length};
+ghost use Rattle.check_script.specs.Saying as said;
+ghost use Rattle.check_script.specs.Saying.{said_as, begun};
+ghost use Rattle.check_script.specs.Reading.{wire_of, joint_of, labelled_row, component_of, row_of, counted_of, count_of, said_of};
 
-use fields::{Byte, Direction, Natural};
 use script::numbers;
-use script::numbers::Numeral;
 use sheet::{Joint, Wire};
 
-// What a line says. `behind`: the row stands behind the counts. A label is the part of the line from the index `label` to its end.
+// What a readable line says. `behind`: the row stands behind the counts. A label is the part of the line from the index `label` to
+// its end.
 #[derive(Clone, Copy)]
 pub enum Said {
     Wire {
@@ -36,195 +36,135 @@ pub enum Said {
     ComponentCount(usize),
     JointCount(usize),
     End,
-    Unreadable,
 }
 
 // A wire's row, behind its letter.
-fn wire_row(line: &[u8], at: usize, behind: bool) -> Said
-    ensures { result ≡ wire_of behind (drop at line.now) }
+#[tactic(auto, unfolding(crate::specs::Reading::wire_of))]
+fn wire_row(text: &[u8], behind: bool) -> Option<Said>
+    ensures { said_as result ≡ wire_of behind text.now }
 {
-    let Direction::Vertical(vertical, j) = fields::direction_at(line, at) else {
-        return Said::Unreadable;
-    };
-    let Natural::Read(l, k) = fields::coordinate_at(line, j) else {
-        return Said::Unreadable;
-    };
-    let Natural::Read(start, m) = fields::coordinate_at(line, k) else {
-        return Said::Unreadable;
-    };
-    let Natural::Read(end, next) = fields::coordinate_at(line, m) else {
-        return Said::Unreadable;
-    };
-    if next < line.len() {
-        return Said::Unreadable;
+    let (vertical, text) = fields::direction(text)?;
+    let (line, text) = fields::coordinate(text)?;
+    let (start, text) = fields::coordinate(text)?;
+    let (end, text) = fields::coordinate(text)?;
+    if !text.is_empty() {
+        return None;
     }
     let wire = Wire {
         vertical,
-        line: l,
+        line,
         start,
         end,
     };
-    Said::Wire { behind, wire }
+    Some(Said::Wire { behind, wire })
 }
 
 // A joint's row, behind its letter.
-fn joint_row(line: &[u8], at: usize, behind: bool) -> Said
-    ensures { result ≡ joint_of behind (drop at line.now) }
+#[tactic(auto, unfolding(crate::specs::Reading::joint_of))]
+fn joint_row(text: &[u8], behind: bool) -> Option<Said>
+    ensures { said_as result ≡ joint_of behind text.now }
 {
-    let Natural::Read(x, k) = fields::coordinate_at(line, at) else {
-        return Said::Unreadable;
-    };
-    let Natural::Read(y, m) = fields::coordinate_at(line, k) else {
-        return Said::Unreadable;
-    };
-    let Natural::Read(count, next) = fields::natural_at(line, m) else {
-        return Said::Unreadable;
-    };
-    if next < line.len() {
-        return Said::Unreadable;
+    let (x, text) = fields::coordinate(text)?;
+    let (y, text) = fields::coordinate(text)?;
+    let (count, text) = fields::natural(text)?;
+    if !text.is_empty() {
+        return None;
     }
     let joint = Joint { x, y, count };
-    Said::Joint { behind, joint }
+    Some(Said::Joint { behind, joint })
 }
 
-// A component's row whose numbers end at `at`: its label starts there or behind a space.
-fn labelled_row(
-    line: &[u8],
-    at: usize,
-    behind: bool,
-    kind: u8,
-    orientation: u8,
-    x: u16,
-    y: u16,
-) -> Said
-    ensures { result ≡ labelled_row (length line.now) (Component behind kind orientation x y) (drop at line.now) }
+// Where the label of at most 16 bytes begins in a line of `len` bytes, by what stands behind the numbers: at its end, or behind a
+// space. It is a part of the line, so it is no longer.
+#[tactic(auto, unfolding(crate::specs::Reading::labelled_row))]
+fn label_start(rest: &[u8], len: usize) -> Option<usize>
+    ensures { (f : ℕ → said.Said) → begun f result ≡ labelled_row len f rest.now }
 {
-    let len = line.len();
-    if len <= at {
-        return Said::Component {
-            behind,
-            kind,
-            orientation,
-            x,
-            y,
-            label: len,
-        };
+    match rest {
+        [] => Some(len),
+        [b' ', label @ ..] if !label.is_empty() && label.len() <= 16 => Some(len.saturating_sub(
+            label.len(),
+        )),
+        _ => None,
     }
-    if len - at == 1 {
-        return Said::Unreadable;
-    }
-    if line[at] == b' ' {
-        if len - at <= 17 {
-            return Said::Component {
-                behind,
-                kind,
-                orientation,
-                x,
-                y,
-                label: at + 1,
-            };
-        }
-    }
-    Said::Unreadable
 }
 
-// A component's position and label.
-fn standing_row(line: &[u8], at: usize, behind: bool, kind: u8, orientation: u8) -> Said
-    ensures { result ≡ stands_of (length line.now) (Component behind kind orientation) (drop at line.now) }
+// A component's row of a line of `len` bytes, behind its letter.
+#[tactic(auto, unfolding(crate::specs::Reading::component_of, crate::specs::Reading::stands_of))]
+fn component_row(text: &[u8], len: usize, behind: bool) -> Option<Said>
+    ensures { said_as result ≡ component_of len behind text.now }
 {
-    let Natural::Read(x, k) = fields::coordinate_at(line, at) else {
-        return Said::Unreadable;
-    };
-    let Natural::Read(y, next) = fields::coordinate_at(line, k) else {
-        return Said::Unreadable;
-    };
-    labelled_row(line, next, behind, kind, orientation, x, y)
+    let (kind, text) = fields::byte(text)?;
+    let (orientation, text) = fields::byte(text)?;
+    let (x, text) = fields::coordinate(text)?;
+    let (y, rest) = fields::coordinate(text)?;
+    let label = label_start(rest, len)?;
+    Some(Said::Component {
+        behind,
+        kind,
+        orientation,
+        x,
+        y,
+        label,
+    })
 }
 
-// A component's row, behind its letter.
-fn component_row(line: &[u8], at: usize, behind: bool) -> Said
-    ensures { result ≡ component_of (length line.now) behind (drop at line.now) }
+// A row of a line of `len` bytes, by its letter.
+#[tactic(auto, unfolding(crate::specs::Reading::row_of))]
+fn row(text: &[u8], len: usize, behind: bool) -> Option<Said>
+    ensures { said_as result ≡ row_of len behind text.now }
 {
-    let Byte::Is(kind, k) = fields::byte_at(line, at) else {
-        return Said::Unreadable;
-    };
-    let Byte::Is(orientation, next) = fields::byte_at(line, k) else {
-        return Said::Unreadable;
-    };
-    standing_row(line, next, behind, kind, orientation)
-}
-
-// A row, by its letter.
-fn row(line: &[u8], at: usize, behind: bool) -> Said
-    ensures { result ≡ row_of (length line.now) behind (drop at line.now) }
-{
-    if numbers::is_at(line, at, b'W') {
-        return wire_row(line, at + 1, behind);
+    match text {
+        [b'W', rest @ ..] => wire_row(rest, behind),
+        [b'C', rest @ ..] => component_row(rest, len, behind),
+        [b'J', rest @ ..] => joint_row(rest, behind),
+        _ => None,
     }
-    if numbers::is_at(line, at, b'C') {
-        return component_row(line, at + 1, behind);
-    }
-    if numbers::is_at(line, at, b'J') {
-        return joint_row(line, at + 1, behind);
-    }
-    Said::Unreadable
 }
 
 // A count told outright, by its letter.
-fn counted(letter: u8, n: i32) -> Said
-    ensures { result ≡ counted_of letter n }
+#[tactic(auto, unfolding(crate::specs::Reading::counted_of))]
+fn counted(letter: u8, n: i32) -> Option<Said>
+    ensures { said_as result ≡ counted_of letter n }
 {
-    if n < 0 {
-        return Said::Unreadable;
-    }
+    let count = usize::try_from(n).ok()?;
     match letter {
-        b'w' => Said::WireCount(n as usize),
-        b'c' => Said::ComponentCount(n as usize),
-        b'j' => Said::JointCount(n as usize),
-        _ => Said::Unreadable,
+        b'w' => Some(Said::WireCount(count)),
+        b'c' => Some(Said::ComponentCount(count)),
+        b'j' => Some(Said::JointCount(count)),
+        _ => None,
     }
 }
 
-// A line that tells a count.
-fn count_line(line: &[u8]) -> Said
-    ensures { result ≡ count_of (drop 1 line.now) }
+// A line that tells a count, behind its `#`.
+#[tactic(auto, unfolding(crate::specs::Reading::count_of))]
+fn count_line(text: &[u8]) -> Option<Said>
+    ensures { said_as result ≡ count_of text.now }
 {
-    if line.len() < 3 {
-        return Said::Unreadable;
+    let [b' ', letter, rest @ ..] = text else {
+        return None;
+    };
+    let (n, rest) = numbers::field(rest)?;
+    if !rest.is_empty() {
+        return None;
     }
-    if line[1] == b' ' {
-        let Numeral::Read(n, next) = numbers::field_at(line, 3) else {
-            return Said::Unreadable;
-        };
-        if next < line.len() {
-            return Said::Unreadable;
-        }
-        return counted(line[2], n);
-    }
-    Said::Unreadable
+    counted(*letter, n)
 }
 
 // What a line says. Two wrong answers that this rules out: a label of 17 bytes cut to 16, and a row behind the counts that counts.
-pub fn read_line(line: &[u8]) -> Said
-    ensures { result ≡ said_of line.now }
+#[tactic(auto, using(crate::proofs::Lines::too_long), unfolding(crate::specs::Reading::said_of, crate::specs::Reading::line_said))]
+pub fn read_line(line: &[u8]) -> Option<Said>
+    ensures { said_as result ≡ said_of line.now }
 {
     if line.len() > 80 {
-        return Said::Unreadable;
+        return None;
     }
-    if numbers::is_at(line, 0, b'Z') {
-        if numbers::is_at(line, 1, b' ') {
-            return row(line, 2, true);
-        }
-        return Said::Unreadable;
+    match line {
+        [b'Z', b' ', text @ ..] => row(text, line.len(), true),
+        [b'Z', ..] => None,
+        [b'#', text @ ..] => count_line(text),
+        [b'.'] => Some(Said::End),
+        [b'.', ..] => None,
+        _ => row(line, line.len(), false),
     }
-    if numbers::is_at(line, 0, b'#') {
-        return count_line(line);
-    }
-    if numbers::is_at(line, 0, b'.') {
-        if line.len() == 1 {
-            return Said::End;
-        }
-        return Said::Unreadable;
-    }
-    row(line, 0, false)
 }

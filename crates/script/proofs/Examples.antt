@@ -3,8 +3,7 @@ use mathlib.Core.Path.{◌≡◌, refl}
 use mathlib.Core.List.{List, [], ◌∷◌, map}
 use Prim.Native.String.{String}
 use lib.IntN.{pos, negsuc}
-use Rattle.script.specs.declared.Command.{Command}
-use Rattle.script.specs.declared.Command.TheVariants.{Horizontal, Vertical, Place, Delete, Turn, Mirror, Nets, Unreadable}
+use Rattle.script.specs.Commands.{Command, Horizontal, Vertical, Place, Delete, Turn, Mirror, Nets, Unreadable}
 use Rattle.script.specs.Grammar.{bytes}
 use Rattle.script.specs.Reading.{digits_of, whole_of, signed_numeral, numeral_of, field_of, three_of, lettered, three_line, labelled, place_line, line_of, command_of}
 

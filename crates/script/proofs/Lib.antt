@@ -2,8 +2,7 @@
 pub mod Parts
 pub mod Meaning
 pub mod Labels
-pub mod Fronts
-pub mod Forms
-pub mod Signs
 pub mod Room
+pub mod Digits
+pub mod Longer
 mod Examples

@@ -10,8 +10,7 @@ use lib.ListN.{length, take, length-append}
 use lib.Seq.{take_all, length-take-le}
 use lib.IntN.{ℤ}
 use Rattle.lists.proofs.Tests.{choose, decide, clash, leb_reads, eqb_reads}
-use Rattle.script.specs.declared.Command.{Command}
-use Rattle.script.specs.declared.Command.TheVariants.{Place, Unreadable}
+use Rattle.script.specs.Commands.{Command, Place, Unreadable}
 use Rattle.script.specs.Grammar.{byte, bytes, IsNumber, ◌␣◌, Letter, horizontal, vertical, delete, turn, mirror, HasLabel, none, some, IsLine, three, place, nets, Says, readable, unreadable}
 use Rattle.script.specs.Reading.{found, then, field_of, three_of, ending, lettered, three_line, labelled, place_line, line_of, command_of}
 use Rattle.script.proofs.Parts.{Stops, end, space, field_by, three_by, field_is, three_is}

@@ -3,8 +3,7 @@
 use Rattle.std.specs.Prelude.{◌≡◌, List, [], ◌∷◌, ◌++◌, ℕ, ◌+◌, ◌-◌, ◌*◌, ◌≤◌, length, ℤ, pos, neg_ℤ}
 use Prim.Native.Char.{Char, code}
 use Prim.Native.String.{String, [] as no_more, ◌∷◌ as ◌then◌}
-use Rattle.script.specs.declared.Command.{Command}
-use Rattle.script.specs.declared.Command.TheVariants.{Horizontal, Vertical, Place, Delete, Turn, Mirror, Nets, Unreadable}
+use Rattle.script.specs.Commands.{Command, Horizontal, Vertical, Place, Delete, Turn, Mirror, Nets, Unreadable}
 
 -- a character as a byte
 abbrev pub byte : Char → ℕ

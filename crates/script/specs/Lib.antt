@@ -1,3 +1,4 @@
+pub mod Commands
 pub mod Grammar
 pub mod Reading
-pub mod Indexes
+pub mod Fronts

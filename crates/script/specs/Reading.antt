@@ -1,8 +1,7 @@
 -- The command of a line, as a function ("panel_list .. reads a script on standard input: lines"): `command_of` gives what the grammar says
 -- (proofs/Meaning.antt).
 use Rattle.std.specs.Prelude.{Bool, true, false, cond, ◌&&◌, List, [], ◌∷◌, ℕ, zero, suc, ◌+◌, ◌-◌, ◌*◌, length, ℤ, pos, neg_ℤ, leb, eqb}
-use Rattle.script.specs.declared.Command.{Command}
-use Rattle.script.specs.declared.Command.TheVariants.{Horizontal, Vertical, Place, Delete, Turn, Mirror, Nets, Unreadable}
+use Rattle.script.specs.Commands.{Command, Horizontal, Vertical, Place, Delete, Turn, Mirror, Nets, Unreadable}
 use Rattle.script.specs.Grammar.{byte}
 
 -- what stands at the front of a text: a value, and the text behind it; or no such thing

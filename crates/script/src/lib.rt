@@ -4,15 +4,15 @@
 
 pub mod numbers;
 
-ghost use Rattle.std.specs.Prelude.{◌≡◌, length, drop};
+ghost use Rattle.std.specs.Prelude.{◌≡◌, ℕ, length};
+ghost use Rattle.script.specs.Commands as said;
+ghost use Rattle.script.specs.Commands.{commanded};
 ghost use Rattle.script.specs.Reading.{lettered, three_line, labelled, place_line, command_of};
-ghost use Rattle.script.specs.declared.Command.TheVariants.{Place};
+ghost use Rattle.script.specs.Fronts.{begun};
 
-use numbers::{Numeral, Three};
-
-// What a line says. A label is the part of the line from the index `label` to its end; it is empty where
+// What a readable line says. A label is the part of the line from the index `label` to its end; it is empty where
 // the line has none.
-#[derive(Clone, Copy)]
+#[derive(Clone, Copy, PartialEq, Eq)]
 pub enum Command {
     Horizontal {
         y: i32,
@@ -47,14 +47,14 @@ pub enum Command {
         size: i32,
     },
     Nets,
-    Unreadable,
 }
 
 // The command of a letter and three numbers.
-fn of_letter(letter: u8, a: i32, b: i32, c: i32) -> Command
-    ensures { result ≡ lettered letter a b c }
+#[tactic(auto, unfolding(crate::specs::Reading::lettered))]
+fn of_letter(letter: u8, a: i32, b: i32, c: i32) -> Option<Command>
+    ensures { commanded result ≡ lettered letter a b c }
 {
-    match letter {
+    let command = match letter {
         b'h' => Command::Horizontal { y: a, x1: b, x2: c },
         b'v' => Command::Vertical { x: a, y1: b, y2: c },
         b'd' => Command::Delete {
@@ -72,88 +72,67 @@ fn of_letter(letter: u8, a: i32, b: i32, c: i32) -> Command
             y: b,
             size: c,
         },
-        _ => Command::Unreadable,
+        _ => return None,
+    };
+    Some(command)
+}
+
+// A line of a letter and three numbers, behind its letter.
+#[tactic(auto, unfolding(crate::specs::Reading::three_line))]
+fn three_line(letter: u8, text: &[u8]) -> Option<Command>
+    ensures { commanded result ≡ three_line letter text.now }
+{
+    let ((a, b, c), rest) = numbers::three(text)?;
+    if !rest.is_empty() {
+        return None;
+    }
+    of_letter(letter, a, b, c)
+}
+
+// Where the label begins in a line of `len` bytes, by what stands behind the numbers: at its end, or behind a space. It is a part
+// of the line, so it is no longer.
+#[tactic(auto, unfolding(crate::specs::Reading::labelled))]
+fn label_start(rest: &[u8], len: usize) -> Option<usize>
+    ensures { (f : ℕ → said.Command) → begun f result ≡ labelled len f rest.now }
+{
+    match rest {
+        [] => Some(len),
+        [b' ', label @ ..] if !label.is_empty() => Some(len.saturating_sub(label.len())),
+        _ => None,
     }
 }
 
-// A line of a letter and three numbers.
-fn three_line(line: &[u8], letter: u8) -> Command
-    ensures { result ≡ three_line letter (drop 1 line.now) }
+// A `p` line of `len` bytes, behind its letter.
+#[tactic(auto, unfolding(crate::specs::Reading::place_line))]
+fn place_line(text: &[u8], len: usize) -> Option<Command>
+    ensures { commanded result ≡ place_line len text.now }
 {
-    let Three::Are(a, b, c, next) = numbers::three_at(line, 1) else {
-        return Command::Unreadable;
-    };
-    if next < line.len() {
-        Command::Unreadable
-    } else {
-        of_letter(letter, a, b, c)
-    }
-}
-
-// A `p` line whose numbers end at `at`: its label starts there or behind a space.
-fn label_line(line: &[u8], at: usize, kind: i32, orient: i32, x: i32, y: i32) -> Command
-    ensures { result ≡ labelled (length line.now) (Place kind orient x y) (drop at line.now) }
-{
-    let len = line.len();
-    if len <= at {
-        return Command::Place {
-            kind: kind,
-            orient: orient,
-            x: x,
-            y: y,
-            label: len,
-        };
-    }
-    if len - at == 1 {
-        return Command::Unreadable;
-    }
-    if line[at] == b' ' {
-        Command::Place {
-            kind: kind,
-            orient: orient,
-            x: x,
-            y: y,
-            label: at + 1,
-        }
-    } else {
-        Command::Unreadable
-    }
-}
-
-// A `p` line.
-fn place_line(line: &[u8]) -> Command
-    ensures { result ≡ place_line (length line.now) (drop 1 line.now) }
-{
-    let Three::Are(kind, orient, x, k) = numbers::three_at(line, 1) else {
-        return Command::Unreadable;
-    };
-    let Numeral::Read(y, next) = numbers::field_at(line, k) else {
-        return Command::Unreadable;
-    };
-    label_line(line, next, kind, orient, x, y)
+    let ((kind, orient, x), rest) = numbers::three(text)?;
+    let (y, rest) = numbers::field(rest)?;
+    let label = label_start(rest, len)?;
+    Some(Command::Place {
+        kind,
+        orient,
+        x,
+        y,
+        label,
+    })
 }
 
 // What a line says. Two wrong answers that this rules out: reading a line of 81 bytes, and taking `n` with
 // bytes behind it (must-fail/ has more).
-#[tactic(auto, using(crate::proofs::Meaning::too_long, crate::proofs::Forms::line_nets))]
-pub fn read_line(line: &[u8]) -> Command
-    ensures { result ≡ command_of line.now }
+#[tactic(auto, using(crate::proofs::Meaning::too_long), unfolding(crate::specs::Reading::command_of, crate::specs::Reading::line_of))]
+pub fn read_line(line: &[u8]) -> Option<Command>
+    ensures { commanded result ≡ command_of line.now }
 {
     if line.len() > 80 {
-        return Command::Unreadable;
+        return None;
     }
-    if line.len() == 0 {
-        return Command::Unreadable;
+    match line {
+        [b'p', text @ ..] => place_line(text, line.len()),
+        [b'n'] => Some(Command::Nets),
+        [b'n', ..] => None,
+        [letter, text @ ..] => three_line(*letter, text),
+        [] => None,
     }
-    let letter = line[0];
-    if letter == b'p' {
-        return place_line(line);
-    }
-    if letter == b'n' {
-        if line.len() == 1 {
-            return Command::Nets;
-        }
-        return Command::Unreadable;
-    }
-    three_line(line, letter)
 }
