@@ -1,3 +1,2 @@
 -- What the proofs of functions use.
-mod Commands
 mod Refusing

@@ -23,7 +23,7 @@ fn show_drawing(d: Drawing, out: &mut [u8], at: usize) -> usize
     let t = tally(d);
     let p = put_row_lines(out, at, t, d);
     let e = refused(0, d, NO_TALLY);
-    let s = tell(e, Command::Nets, &mut out[p..]);
+    let s = tell(e, Some(Command::Nets), &mut out[p..]);
     p + s.length
 }
 

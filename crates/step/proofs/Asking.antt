@@ -15,8 +15,7 @@ use Rattle.redraw.specs.declared.Edited.{Edited}
 use Rattle.redraw.specs.Calls.{add_wire, add_component, delete_at, rotate_at, mirror_at}
 use Rattle.schematic.specs.Calls.{checked}
 use Rattle.schematic.proofs.Checking.{lawful_passes}
-use Rattle.script.specs.declared.Command.{Command}
-use Rattle.script.specs.declared.Command.TheVariants.{Horizontal, Vertical, Place, Delete, Turn, Mirror, Nets}
+use Rattle.script.specs.Commands.{Command, Horizontal, Vertical, Place, Delete, Turn, Mirror, Nets}
 use Rattle.script.specs.Reading.{command_of}
 use Rattle.step.specs.Steps.{choice_of, edit_of, unedited, step_of}
 use Rattle.telling.specs.Told.{told}

@@ -11,8 +11,7 @@ use Rattle.redraw.specs.declared.Edited.{Edited}
 use Rattle.redraw.proofs.Laws.{Accepted, wire_accepted, component_accepted, delete_accepted, rotate_accepted, mirror_accepted}
 use Rattle.schematic.specs.Calls.{checked}
 use Rattle.schematic.proofs.Checking.{lawful_passes}
-use Rattle.script.specs.declared.Command.{Command}
-use Rattle.script.specs.declared.Command.TheVariants.{Horizontal, Vertical, Place, Delete, Turn, Mirror, Nets, Unreadable}
+use Rattle.script.specs.Commands.{Command, Horizontal, Vertical, Place, Delete, Turn, Mirror, Nets, Unreadable}
 use Rattle.script.specs.Reading.{command_of}
 use Rattle.step.specs.Steps.{edit_of, unedited, step_of}
 use Rattle.telling.specs.Told.{After, told}

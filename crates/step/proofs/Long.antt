@@ -5,7 +5,7 @@ use Prim.Native.Nat.{ℕ}
 use lib.ListN.{take}
 use Rattle.sheet.specs.declared.Drawing.{Drawing}
 use Rattle.redraw.specs.Calls.{refused}
-use Rattle.script.specs.declared.Command.TheVariants.{Unreadable}
+use Rattle.script.specs.Commands.{Unreadable}
 use Rattle.script.specs.Reading.{command_of}
 use Rattle.script.proofs.Meaning.{only_81}
 use Rattle.telling.specs.Told.{plainly, told}

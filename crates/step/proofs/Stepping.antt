@@ -7,8 +7,7 @@ use Rattle.sheet.specs.declared.Drawing.{Drawing}
 use Rattle.sheet.specs.declared.Tally.{Tally}
 use Rattle.sheet.specs.Rules.{Lawful}
 use Rattle.redraw.specs.declared.Edited.{Edited}
-use Rattle.script.specs.declared.Command.{Command}
-use Rattle.script.specs.declared.Command.TheVariants.{Nets}
+use Rattle.script.specs.Commands.{Command, Nets}
 use Rattle.script.specs.Reading.{command_of}
 use Rattle.telling.specs.declared.Stepped.{Stepped}
 use Rattle.step.specs.Steps.{edit_of, step_of}

@@ -10,4 +10,4 @@ use Rattle.step.specs.Steps.{step_of}
 -- what came of a line of a lawful drawing is told in a buffer; the drawing stays lawful
 pub record Steps (d : Drawing) (t : Tally) (line old new : List ℕ) (r : Stepped) : Type 0 where
   pub tells : Tells (step_of d t line) old new r
-  pub lawful : Lawful r.drawing
+  pub lawful : Lawful r.edited.drawing

@@ -7,8 +7,7 @@ use Rattle.sheet.specs.declared.Tally.{Tally}
 use Rattle.redraw.specs.declared.Edited.{Edited}
 use Rattle.redraw.specs.Calls.{refused, add_wire, add_component, delete_at, rotate_at, mirror_at}
 use Rattle.schematic.specs.Calls.{checked}
-use Rattle.script.specs.declared.Command.{Command}
-use Rattle.script.specs.declared.Command.TheVariants.{Horizontal, Vertical, Place, Delete, Turn, Mirror, Nets, Unreadable}
+use Rattle.script.specs.Commands.{Command, Horizontal, Vertical, Place, Delete, Turn, Mirror, Nets, Unreadable}
 use Rattle.script.specs.Reading.{command_of}
 use Rattle.telling.specs.Told.{After, told}
 

@@ -102,7 +102,7 @@ module _ (e : Edited) (list l old : List ℕ) {mid new : List ℕ} {n : ℕ} (m 
       }
 
 -- whatever the room, the drawing is the one that came of the line
-pub told_drawing : {a : After} {old new : List ℕ} {r : Stepped} → Tells a old new r → r.drawing ≡ a.outcome.drawing
+pub told_drawing : {a : After} {old new : List ℕ} {r : Stepped} → Tells a old new r → r.edited.drawing ≡ a.outcome.drawing
 unfolding in_room
 told_drawing {a} {old} w = ap (λ (e : Edited). e.drawing) w.answers.outcome ∙ choose (leb_reads (length a.list) (length old)) (λ (x : After). x.outcome.drawing ≡ a.outcome.drawing) (λ _. refl) (λ _. refl)
 
@@ -112,9 +112,6 @@ replied {bs} {own} {line} {old} {new} {k} {n} p few forty f = record {
   fitted = subst (λ l. Fitted old 0 l new n) (line_is p (omega (arith, forty))) f;
   short = omega (arith, p.behind);
 }
-
-pub replied_as : {l l' old new : List ℕ} {n : ℕ} → l ≡ l' → Replied l old new n → Replied l' old new n
-replied_as {old = old} {new} {n} = subst (λ l. Replied l old new n)
 
 pub told_line : (e : Edited) (l : List ℕ) {old new : List ℕ} {n : ℕ} → Replied l old new n → Tells (record { outcome = e; list = []; answer = l }) old new (told_with e n)
 told_line e l {old} r = told_behind e [] l old refl (omega arith) r.fitted (omega (arith, r.short))

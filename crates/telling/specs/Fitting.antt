@@ -2,8 +2,7 @@
 use Rattle.std.specs.Prelude.{◌≡◌, Bool, true, false, cond, List, ℕ, ◌+◌, ◌≤◌, leb, length}
 use Rattle.std.proofs.lemmas.List.Edits.{sets}
 use Rattle.redraw.specs.declared.Edited.{Edited}
-use Rattle.script.specs.declared.Command.{Command}
-use Rattle.script.specs.declared.Command.TheVariants.{Horizontal, Vertical, Place, Delete, Turn, Mirror, Nets, Unreadable}
+use Rattle.script.specs.Commands.{Command, Horizontal, Vertical, Place, Delete, Turn, Mirror, Nets, Unreadable}
 use Rattle.telling.specs.declared.Stepped.{Stepped}
 use Rattle.telling.specs.Told.{answered, counted, After, in_room, Answers}
 
@@ -30,12 +29,12 @@ is_counted Nets = false
 is_counted Unreadable = false
 
 -- the answer line of an edit
-abbrev pub reply_line : Bool → ℕ → ℕ → ℕ → List ℕ
-reply_line counts reply hit lost = cond counts (counted reply hit lost) (answered reply)
+abbrev pub reply_line : Bool → Edited → List ℕ
+reply_line counts e = cond counts (counted e.reply e.hit e.lost) (answered e.reply)
 
 -- the answer of a call that tells the edit e, with so many bytes printed
 abbrev pub told_with : Edited → ℕ → Stepped
-told_with e n = record { reply = e.reply; tally = e.tally; drawing = e.drawing; hit = e.hit; lost = e.lost; row = e.row; length = n }
+told_with e n = record { edited = e; length = n }
 
 -- the bytes l stand in a buffer behind its first `at`, if they fit there; r is the index behind what was put
 pub record Fitted (old : List ℕ) (at : ℕ) (l new : List ℕ) (r : ℕ) : Type 0 where

@@ -6,8 +6,7 @@ use Rattle.redraw.specs.Calls.{refused}
 use Rattle.text.specs.Text.{decimal_of}
 use Rattle.loose_pads.specs.Counting.{loose_of}
 use Rattle.listing.specs.Listing.{list_of}
-use Rattle.script.specs.declared.Command.{Command}
-use Rattle.script.specs.declared.Command.TheVariants.{Horizontal, Vertical, Place, Delete, Turn, Mirror, Nets, Unreadable}
+use Rattle.script.specs.Commands.{Command, Horizontal, Vertical, Place, Delete, Turn, Mirror, Nets, Unreadable}
 use Rattle.script.specs.Grammar.{byte, bytes}
 use Rattle.telling.specs.declared.Stepped.{Stepped}
 
@@ -75,7 +74,7 @@ in_room room a =
 
 -- the edit's part of a call's answer
 abbrev pub outcome_of : Stepped → Edited
-outcome_of r = record { reply = r.reply; tally = r.tally; drawing = r.drawing; hit = r.hit; lost = r.lost; row = r.row }
+outcome_of r = r.edited
 
 -- the call: what came of the line, and what is printed in front of the lent buffer; "bytes behind it stay"
 pub record Answers (a : After) (old new : List ℕ) (r : Stepped) : Type 0 where

@@ -4,10 +4,11 @@
 ghost use Rattle.std.specs.Prelude.{◌≡◌, ◌≤◌, length};
 ghost use Rattle.sheet.specs.Rules.{Lawful};
 ghost use Rattle.text.specs.Text.{Put};
-ghost use Rattle.script.specs.declared.Command.TheVariants.{Nets};
+ghost use Rattle.script.specs.Commands as said;
+ghost use Rattle.script.specs.Commands.{commanded};
 ghost use Rattle.telling.specs.Told;
 ghost use Rattle.telling.specs.Told.{counted, listedly, numbered};
-ghost use Rattle.telling.specs.Fitting.{Fitted, Replied, Tells, asks_list, is_counted, reply_line, told_with};
+ghost use Rattle.telling.specs.Fitting.{Fitted, Tells, asks_list, is_counted, reply_line, told_with};
 
 use listing::write_list_by;
 use loose_pads::count_loose;
@@ -17,15 +18,10 @@ use script::Command;
 use sheet::{Drawing, Tally};
 use text::{put_byte, put_bytes, put_decimal};
 
-// What came of a line, as an edit tells it, and how many bytes of the lent buffer are what it printed.
+// What came of a line, and how many bytes of the lent buffer are what it printed.
 #[derive(Clone, Copy)]
 pub struct Stepped {
-    pub reply: u8,
-    pub tally: Tally,
-    pub drawing: Drawing,
-    pub hit: u32,
-    pub lost: u32,
-    pub row: u16,
+    pub edited: Edited,
     pub length: usize,
 }
 
@@ -40,15 +36,15 @@ pub fn put_numbered(line: &mut [u8], letter: u8, n: u32) -> usize
 }
 
 // `A <reply> <hit> <lost>`
-fn put_counted(line: &mut [u8], reply: u8, hit: u32, lost: u32) -> usize
-    ensures { Put line.old 0 (counted reply hit lost) line.new result × (result ≤ 40) }
+fn put_counted(line: &mut [u8], e: &Edited) -> usize
+    ensures { Put line.old 0 (counted e.now.reply e.now.hit e.now.lost) line.new result × (result ≤ 40) }
 {
     let p = put_bytes(line, 0, b"A ");
-    let p = put_decimal(line, p, reply as u32);
+    let p = put_decimal(line, p, e.reply as u32);
     let p = put_byte(line, p, b' ');
-    let p = put_decimal(line, p, hit);
+    let p = put_decimal(line, p, e.hit);
     let p = put_byte(line, p, b' ');
-    let p = put_decimal(line, p, lost);
+    let p = put_decimal(line, p, e.lost);
     put_byte(line, p, b'\n')
 }
 
@@ -65,33 +61,14 @@ fn put_fitting(out: &mut [u8], at: usize, line: &[u8]) -> usize
     at
 }
 
-// The answer line of an edit, with hit and lost or without, if it fits; and how many bytes it is.
-fn put_reply(out: &mut [u8], counts: bool, reply: u8, hit: u32, lost: u32) -> usize
-    ensures { Replied (reply_line counts reply hit lost) out.old out.new result }
+// The answer line of an edit, with hit and lost or without.
+fn put_reply(line: &mut [u8], counts: bool, e: &Edited) -> usize
+    ensures { Put line.old 0 (reply_line counts e.now) line.new result × (result ≤ 40) }
 {
-    let mut line = [0u8; 40];
     if counts {
-        let n = put_counted(&mut line, reply, hit, lost);
-        return put_fitting(out, 0, &line[..n]);
-    }
-    let n = put_numbered(&mut line, b'A', reply as u32);
-    put_fitting(out, 0, &line[..n])
-}
-
-// An edit's answer, with so many bytes printed.
-fn told(e: Edited, length: usize) -> Stepped
-    ensures { result ≡ told_with e length }
-{
-    let tally = e.tally;
-    let drawing = e.drawing;
-    Stepped {
-        reply: e.reply,
-        tally,
-        drawing,
-        hit: e.hit,
-        lost: e.lost,
-        row: e.row,
-        length,
+        put_counted(line, e)
+    } else {
+        put_numbered(line, b'A', e.reply as u32)
     }
 }
 
@@ -102,69 +79,50 @@ fn tell_list(e: Edited, out: &mut [u8]) -> Stepped
     ensures { Tells (listedly e) out.old out.new result }
 {
     if e.reply != 0 {
-        return told(e, 0);
+        return Stepped {
+            edited: e,
+            length: 0,
+        };
     }
     let d = e.drawing;
     let numbers = pad_numbers(d);
     let l = write_list_by(d, numbers, out);
     if l.reply != 0 {
-        let t = e.tally;
-        return told(refused(8, d, t), 0);
+        return Stepped {
+            edited: refused(8, d, e.tally),
+            length: 0,
+        };
     }
     let mut line = [0u8; 40];
     let n = put_numbered(&mut line, b'E', count_loose(d, numbers));
     let length = put_fitting(out, l.length, &line[..n]);
-    told(e, length)
+    Stepped { edited: e, length }
 }
 
 // Whether a command is answered with hit and lost: a turn or a mirror.
-fn tells_counts(command: Command) -> bool
-    ensures { result ≡ is_counted command }
+fn tells_counts(command: Option<Command>) -> bool
+    ensures { result ≡ is_counted (commanded command) }
 {
-    match command {
-        Command::Turn {
-            x: _,
-            y: _,
-            size: _,
-        } => true,
-        Command::Mirror {
-            x: _,
-            y: _,
-            size: _,
-        } => true,
-        _ => false,
-    }
+    matches!(command, Some(Command::Turn { .. } | Command::Mirror { .. }))
 }
 
 // Whether a command asks for the list.
-pub fn asks_list(command: Command) -> bool
-    ensures { result ≡ asks_list command }
+pub fn asks_list(command: Option<Command>) -> bool
+    ensures { result ≡ asks_list (commanded command) }
 {
-    match command {
-        Command::Nets => true,
-        _ => false,
-    }
+    matches!(command, Some(Command::Nets))
 }
 
 // What a command prints, of the edit that came of it.
-pub fn tell(e: Edited, command: Command, out: &mut [u8]) -> Stepped
-    requires { command ≡ Nets → e.reply ≡ 0 → Lawful e.drawing }
-    ensures { Tells (Told.told command e) out.old out.new result }
+pub fn tell(e: Edited, command: Option<Command>, out: &mut [u8]) -> Stepped
+    requires { commanded command ≡ said.Nets → e.reply ≡ 0 → Lawful e.drawing }
+    ensures { Tells (Told.told (commanded command) e) out.old out.new result }
 {
     if asks_list(command) {
         return tell_list(e, out);
     }
-    let counts = tells_counts(command);
-    let length = put_reply(out, counts, e.reply, e.hit, e.lost);
-    let tally = e.tally;
-    let drawing = e.drawing;
-    Stepped {
-        reply: e.reply,
-        tally,
-        drawing,
-        hit: e.hit,
-        lost: e.lost,
-        row: e.row,
-        length,
-    }
+    let mut line = [0u8; 40];
+    let n = put_reply(&mut line, tells_counts(command), &e);
+    let length = put_fitting(out, 0, &line[..n]);
+    Stepped { edited: e, length }
 }

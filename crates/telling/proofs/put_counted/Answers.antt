@@ -7,31 +7,31 @@ use Rattle.telling.proofs.put_counted.Goals as goal
 
 pub put_decimal-p-requires : goal.put_decimal-p-requires
 put_decimal-p-requires c =
-    omega (arith, c.put_bytes-p.ensures.behind, length_number c.args.reply (omega (arith, c.ranges.reply)))
+    omega (arith, c.put_bytes-p.ensures.behind, length_number c.args.e.now.reply (omega arith))
 
 pub put_byte-p-requires : goal.put_byte-p-requires
 put_byte-p-requires c =
-    omega (arith, c.put_bytes-p.ensures.behind, c.put_decimal-p.ensures.behind, length_number c.args.reply (omega (arith, c.ranges.reply)))
+    omega (arith, c.put_bytes-p.ensures.behind, c.put_decimal-p.ensures.behind, length_number c.args.e.now.reply (omega arith))
 
 pub put_decimal-p-requires-2 : goal.put_decimal-p-requires-2
 put_decimal-p-requires-2 c =
-    omega (arith, c.put_bytes-p.ensures.behind, c.put_decimal-p.ensures.behind, c.put_byte-p.ensures.behind, length_number c.args.reply (omega (arith, c.ranges.reply)), length_number c.args.hit (omega (arith, c.ranges.hit)))
+    omega (arith, c.put_bytes-p.ensures.behind, c.put_decimal-p.ensures.behind, c.put_byte-p.ensures.behind, length_number c.args.e.now.reply (omega arith), length_number c.args.e.now.hit (omega arith))
 
 pub put_byte-p-requires-2 : goal.put_byte-p-requires-2
 put_byte-p-requires-2 c =
-    omega (arith, c.put_bytes-p.ensures.behind, c.put_decimal-p.ensures.behind, c.put_byte-p.ensures.behind, c.put_decimal-p-2.ensures.behind, length_number c.args.reply (omega (arith, c.ranges.reply)), length_number c.args.hit (omega (arith, c.ranges.hit)))
+    omega (arith, c.put_bytes-p.ensures.behind, c.put_decimal-p.ensures.behind, c.put_byte-p.ensures.behind, c.put_decimal-p-2.ensures.behind, length_number c.args.e.now.reply (omega arith), length_number c.args.e.now.hit (omega arith))
 
 pub put_decimal-p-requires-3 : goal.put_decimal-p-requires-3
 put_decimal-p-requires-3 c =
-    omega (arith, c.put_bytes-p.ensures.behind, c.put_decimal-p.ensures.behind, c.put_byte-p.ensures.behind, c.put_decimal-p-2.ensures.behind, c.put_byte-p-2.ensures.behind, length_number c.args.reply (omega (arith, c.ranges.reply)), length_number c.args.hit (omega (arith, c.ranges.hit)), length_number c.args.lost (omega (arith, c.ranges.lost)))
+    omega (arith, c.put_bytes-p.ensures.behind, c.put_decimal-p.ensures.behind, c.put_byte-p.ensures.behind, c.put_decimal-p-2.ensures.behind, c.put_byte-p-2.ensures.behind, length_number c.args.e.now.reply (omega arith), length_number c.args.e.now.hit (omega arith), length_number c.args.e.now.lost (omega arith))
 
 pub put_byte-requires : goal.put_byte-requires
 put_byte-requires c =
-    omega (arith, c.put_bytes-p.ensures.behind, c.put_decimal-p.ensures.behind, c.put_byte-p.ensures.behind, c.put_decimal-p-2.ensures.behind, c.put_byte-p-2.ensures.behind, c.put_decimal-p-3.ensures.behind, length_number c.args.reply (omega (arith, c.ranges.reply)), length_number c.args.hit (omega (arith, c.ranges.hit)), length_number c.args.lost (omega (arith, c.ranges.lost)))
+    omega (arith, c.put_bytes-p.ensures.behind, c.put_decimal-p.ensures.behind, c.put_byte-p.ensures.behind, c.put_decimal-p-2.ensures.behind, c.put_byte-p-2.ensures.behind, c.put_decimal-p-3.ensures.behind, length_number c.args.e.now.reply (omega arith), length_number c.args.e.now.hit (omega arith), length_number c.args.e.now.lost (omega arith))
 
 pub returns : goal.returns
 unfolding counted
 returns c = (
   put_then c.put_bytes-p.ensures (put_then c.put_decimal-p.ensures (put_then c.put_byte-p.ensures (put_then c.put_decimal-p-2.ensures (put_then c.put_byte-p-2.ensures (put_then c.put_decimal-p-3.ensures c.put_byte.ensures))))),
-  omega (arith, c.put_bytes-p.ensures.behind, c.put_decimal-p.ensures.behind, c.put_byte-p.ensures.behind, c.put_decimal-p-2.ensures.behind, c.put_byte-p-2.ensures.behind, c.put_decimal-p-3.ensures.behind, c.put_byte.ensures.behind, length_number c.args.reply (omega (arith, c.ranges.reply)), length_number c.args.hit (omega (arith, c.ranges.hit)), length_number c.args.lost (omega (arith, c.ranges.lost))),
+  omega (arith, c.put_bytes-p.ensures.behind, c.put_decimal-p.ensures.behind, c.put_byte-p.ensures.behind, c.put_decimal-p-2.ensures.behind, c.put_byte-p-2.ensures.behind, c.put_decimal-p-3.ensures.behind, c.put_byte.ensures.behind, length_number c.args.e.now.reply (omega arith), length_number c.args.e.now.hit (omega arith), length_number c.args.e.now.lost (omega arith)),
 )

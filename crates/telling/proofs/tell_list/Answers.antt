@@ -1,5 +1,5 @@
 -- `tell_list` meets its contract: refused; longer than the buffer; or the list, and its answer line behind it.
-use mathlib.Core.Path.{refl, ap, ◌∙◌}
+use mathlib.Core.Path.{refl, ap}
 use native.Mathlib.Omega.{arith}
 use Rattle.sheet.proofs.Owned.{owned}
 use Rattle.listing.proofs.Lengths.{list_room}
@@ -8,7 +8,7 @@ use Rattle.telling.proofs.Telling.{line_short, told_refused, told_eight, told_li
 use Rattle.telling.proofs.tell_list.Goals as goal
 
 pub returns-then-e-ne0 : goal.returns-then-e-ne0
-returns-then-e-ne0 c = told_refused c.args.e c.args.out.now c.if-e-ne0.true c.told.ensures
+returns-then-e-ne0 c = told_refused c.args.e c.args.out.now c.if-e-ne0.true refl
 
 pub pad_numbers-numbers-requires : goal.pad_numbers-numbers-requires
 pad_numbers-numbers-requires c = c.requires c.if-e-ne0.false
@@ -19,7 +19,7 @@ write_list_by-l-requires c = record { lawful = c.requires c.if-e-ne0.false; numb
 pub returns-then-l-ne0 : goal.returns-then-l-ne0
 returns-then-l-ne0 c =
     let r = list_room (c.requires c.if-e-ne0.false) (owned c.args.e.drawing _ c.well_formed.0.1.1.1.1.0.1.1) in
-    told_eight c.args.e c.if-e-ne0.false c.args.out.now c.write_list_by-l.ensures.told c.write_list_by-l.ensures.written r c.if-l-ne0.true (c.told-then-l-ne0.ensures ∙ ap (λ e. told_with e 0) c.refused.ensures)
+    told_eight c.args.e c.if-e-ne0.false c.args.out.now c.write_list_by-l.ensures.told c.write_list_by-l.ensures.written r c.if-l-ne0.true (ap (λ e. told_with e 0) c.refused.ensures)
 
 pub count_loose-requires : goal.count_loose-requires
 count_loose-requires c =
@@ -38,4 +38,4 @@ pub returns : goal.returns
 returns c =
     let r = list_room (c.requires c.if-e-ne0.false) (owned c.args.e.drawing _ c.well_formed.0.1.1.1.1.0.1.1) in
     told_list c.args.e c.if-e-ne0.false c.args.out.now c.write_list_by-l.ensures.told c.write_list_by-l.ensures.written r c.if-l-ne0.false
-    c.count_loose.ensures c.put_numbered-n.ensures.0 c.put_numbered-n.ensures.1 refl c.put_fitting-length.ensures c.told-2.ensures
+    c.count_loose.ensures c.put_numbered-n.ensures.0 c.put_numbered-n.ensures.1 refl c.put_fitting-length.ensures refl
