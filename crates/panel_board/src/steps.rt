@@ -16,7 +16,7 @@ fn answer(rt: &impl Print, d: Drawing, t: Tally, line: &[u8], told: bool) -> io:
     let mut out = [0u8; 8192];
     let s = step(d, line, t, &mut out);
     if told {
-        put_row(rt, s.reply, s.row)?;
+        put_row(rt, s.edited.reply, s.edited.row)?;
         return Ok(s);
     }
     put_front(rt, &out, s.length)?;
@@ -24,8 +24,8 @@ fn answer(rt: &impl Print, d: Drawing, t: Tally, line: &[u8], told: bool) -> io:
     if first == b'n' {
         put(rt, b".\n")?;
     } else {
-        let after = s.drawing;
-        let sums = s.tally;
+        let after = s.edited.drawing;
+        let sums = s.edited.tally;
         put_drawing(rt, after, sums)?;
     }
     Ok(s)
@@ -54,8 +54,8 @@ fn lines(rt: &impl Print, d: Drawing, text: &[u8], told: bool) -> io::Result<Dra
     while at < text.len() {
         let end = line_end(text, at);
         let s = answer(rt, drawing, tally, &text[at..end], told)?;
-        drawing = s.drawing;
-        tally = s.tally;
+        drawing = s.edited.drawing;
+        tally = s.edited.tally;
         if end == text.len() {
             return Ok(drawing);
         }

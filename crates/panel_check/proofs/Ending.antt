@@ -11,8 +11,7 @@ use lib.ListN.{length, take, length-append}
 use lib.Seq.{take_all, length-take-le}
 use Rattle.lists.proofs.Tests.{decide, leb_reads}
 use Rattle.text.specs.Text.{Put}
-use Rattle.check_script.specs.declared.Said.{Said}
-use Rattle.check_script.specs.declared.Said.TheVariants.{Unreadable}
+use Rattle.check_script.specs.Saying.{Said, Unreadable}
 use Rattle.check_script.specs.Reading.{said_of}
 use Rattle.check_script.proofs.Lines.{said_81, too_long}
 use Rattle.sketch.specs.Sketches.{not_held, added_of}

@@ -14,11 +14,10 @@ use Rattle.text.proofs.Puts.{put_fits}
 use Rattle.sheet.specs.declared.Drawing.{Drawing}
 use Rattle.rules.specs.declared.Checked.{Checked}
 use Rattle.rules.specs.Check.{check_of}
-use Rattle.check_script.specs.declared.Said.{Said}
+use Rattle.check_script.specs.Saying.{Said}
 use Rattle.check_script.specs.Reading.{said_of}
 use Rattle.sketch.specs.declared.Sketch.{Sketch}
-use Rattle.sketch.specs.declared.Added.{Added}
-use Rattle.sketch.specs.Sketches.{empty_sketch, added_of}
+use Rattle.sketch.specs.Sketches.{Added, empty_sketch, added_of}
 use Rattle.panel_check.specs.declared.State.{State}
 use Rattle.panel_check.specs.Answers.{verdict_line, is_end, next_number}
 use Rattle.panel_check.specs.Telling.{verdict_of, told_after}

@@ -3,8 +3,8 @@
 use Rattle.std.specs.Prelude.{Bool, true, false, cond, List, ◌++◌, ℕ, ◌+◌, ltb}
 use Rattle.text.specs.Text.{decimal_of}
 use Rattle.script.specs.Grammar.{bytes}
-use Rattle.check_script.specs.declared.Said.{Said}
-use Rattle.check_script.specs.declared.Said.TheVariants as said
+use Rattle.check_script.specs.Saying.{Said}
+use Rattle.check_script.specs.Saying as said
 
 -- "names the first broken rule .. and tells both rows": the answer line
 unfoldable pub verdict_line : ℕ → ℕ → ℕ → List ℕ

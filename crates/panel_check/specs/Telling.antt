@@ -5,8 +5,7 @@ use Rattle.sheet.specs.declared.Drawing.{Drawing}
 use Rattle.rules.specs.Check.{check_of}
 use Rattle.check_script.specs.Reading.{said_of}
 use Rattle.sketch.specs.declared.Sketch.{Sketch}
-use Rattle.sketch.specs.declared.Added.{Added}
-use Rattle.sketch.specs.Sketches.{empty_sketch, added_of}
+use Rattle.sketch.specs.Sketches.{Added, empty_sketch, added_of}
 use Rattle.lines.specs.Lines.{lines_of}
 use Rattle.lines.specs.Runs.{through}
 use Rattle.panel_check.specs.Answers.{verdict_line, unreadable_of, is_end, next_number}

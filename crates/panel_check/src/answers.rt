@@ -1,6 +1,7 @@
 // What is printed, put into a lent buffer.
 ghost use Rattle.std.specs.Prelude.{◌≡◌, ◌+◌, ◌≤◌};
 ghost use Rattle.text.specs.Text.{Put};
+ghost use Rattle.check_script.specs.Saying.{said_as};
 ghost use Rattle.panel_check.specs.Answers.{verdict_line, unreadable_of, is_end, next_number};
 
 use check_script::Said;
@@ -29,37 +30,15 @@ pub fn put_unreadable(out: &mut [u8], line: u32) -> usize
 }
 
 // Whether a line ends a drawing.
-pub fn is_end(said: Said) -> bool
-    ensures { result ≡ is_end said }
+pub fn is_end(said: Option<Said>) -> bool
+    ensures { result ≡ is_end (said_as said) }
 {
-    match said {
-        Said::Wire { behind: _, wire: _ } => false,
-        Said::Component {
-            behind: _,
-            kind: _,
-            orientation: _,
-            x: _,
-            y: _,
-            label: _,
-        } => false,
-        Said::Joint {
-            behind: _,
-            joint: _,
-        } => false,
-        Said::WireCount(_) => false,
-        Said::ComponentCount(_) => false,
-        Said::JointCount(_) => false,
-        Said::End => true,
-        Said::Unreadable => false,
-    }
+    matches!(said, Some(Said::End))
 }
 
 // The number of the next line.
 pub fn next_number(n: u32) -> u32
     ensures { result ≡ next_number n }
 {
-    if n < u32::MAX {
-        return n + 1;
-    }
-    n
+    n.saturating_add(1)
 }

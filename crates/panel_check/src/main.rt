@@ -44,29 +44,26 @@ pub struct Waiting {
     pub failed: bool,
 }
 
-// Where the next answer goes, and whether a write failed.
-#[derive(Clone, Copy)]
-pub struct Room {
-    pub at: usize,
-    pub failed: bool,
-}
-
 // Room for an answer. Answers wait for the end of the input, as an unreadable line is told alone; where some thousands wait, they are
 // written.
-fn make_room<R, W: Write, E: Write>(streams: &mut Streams<R, W, E>, out: &[u8], used: usize) -> Room
+fn make_room<R, W: Write, E: Write>(
+    streams: &mut Streams<R, W, E>,
+    out: &[u8],
+    used: usize,
+) -> Waiting
     requires waiting { used ≤ 65536 }
     requires room { length out.now ≡ 65536 }
-    ensures { result.at ≡ kept_of used }
+    ensures { result.used ≡ kept_of used }
 {
     if used <= 65500 {
-        return Room {
-            at: used,
+        return Waiting {
+            used,
             failed: false,
         };
     }
     let o = write_block(streams, 0, &out[..used]);
-    Room {
-        at: 0,
+    Waiting {
+        used: 0,
         failed: o.failed,
     }
 }
@@ -84,7 +81,7 @@ fn answer<R, W: Write, E: Write>(
 {
     let room = make_room(streams, out, used);
     let k = check(d);
-    let n = put_checked(out, room.at, k.rule, k.first, k.second);
+    let n = put_checked(out, room.used, k.rule, k.first, k.second);
     Waiting {
         used: n,
         failed: room.failed,
@@ -121,15 +118,20 @@ fn take_line<R, W: Write, E: Write>(
             failed: w.failed,
         };
     }
-    let a = add(s, line, said);
-    let sketch = a.sketch;
+    let Some(sketch) = add(s, line, said) else {
+        return State {
+            begun: true,
+            lines,
+            stopped: true,
+            ..r
+        };
+    };
     State {
         sketch,
         begun: true,
         lines,
-        stopped: !a.held,
-        used: r.used,
-        failed: r.failed,
+        stopped: false,
+        ..r
     }
 }
 
@@ -222,15 +224,7 @@ fn finish<R, W: Write, E: Write>(
 fn failed(r: State) -> State
     ensures { result ≡ after_failure r }
 {
-    let sketch = r.sketch;
-    State {
-        sketch,
-        begun: r.begun,
-        lines: r.lines,
-        stopped: r.stopped,
-        used: r.used,
-        failed: true,
-    }
+    State { failed: true, ..r }
 }
 
 // The lines of all that is read. A proved loop has to end, and nothing says that the input does: it counts its reads down, from a

@@ -14,8 +14,8 @@ use Rattle.telling.proofs.Behind.{printed_behind, printed_fits}
 use Rattle.panel_list.specs.Printing.{Prints}
 
 pub line_printed : (d : Drawing) (line : List ℕ) (used : ℕ) (out rest : List ℕ) {old new : List ℕ} {s : Stepped}
-    → Answers (step_of d no_tally line) old new s → Lawful s.drawing → used ≤ length out → length new ≡ length old
-    → Prints d line used out (record { drawing = s.drawing; used = used + s.length }) (take used out ++ (new ++ rest))
+    → Answers (step_of d no_tally line) old new s → Lawful s.edited.drawing → used ≤ length out → length new ≡ length old
+    → Prints d line used out (record { drawing = s.edited.drawing; used = used + s.length }) (take used out ++ (new ++ rest))
 line_printed d line used out rest w l h e = record {
   told = λ i. progress (w.outcome i).drawing (printed_behind used out rest w h i);
   lawful = l;

@@ -30,7 +30,7 @@ fn print(drawing: Drawing, line: &[u8], out: &mut [u8], used: usize) -> Answered
     ensures { Prints drawing line.now used out.old result out.new }
 {
     let s = step_on(drawing, line, NO_TALLY, &mut out[used..]);
-    let d = s.drawing;
+    let d = s.edited.drawing;
     Answered {
         drawing: d,
         used: used + s.length,

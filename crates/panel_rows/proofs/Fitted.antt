@@ -45,14 +45,14 @@ module _ (a : After) (old : List ℕ) (k : ℕ) {part : List ℕ} {s : Stepped} 
 
 -- a line's answer, and what stands behind it
 pub stepped : (d : Drawing) (line old : List ℕ) {part new : List ℕ} {s : Stepped} {list : Bool} {next : ℕ} → 61488 ≤ length old → list ≡ asks_list (command_of line)
-    → Answers (step_of d no_tally line) (take 8192 old) part s → Lawful s.drawing → length part ≡ length (take 8192 old) → Puts 53296 (part ++ drop 8192 old) s.length (behind list s.drawing) new next
-    → PrintsRows d line old new (record { drawing = s.drawing; length = next })
+    → Answers (step_of d no_tally line) (take 8192 old) part s → Lawful s.edited.drawing → length part ≡ length (take 8192 old) → Puts 53296 (part ++ drop 8192 old) s.length (behind list s.edited.drawing) new next
+    → PrintsRows d line old new (record { drawing = s.edited.drawing; length = next })
 unfolding rows_step
 stepped d line old {part} {new} {s} {list} {next} room l e lawful same p =
     let a : After = step_of d no_tally line in
     let j = joined a old 8192 (omega arith) e same room p in
-    let drawn : s.drawing ≡ redrawn d line = ap (λ (x : Edited). x.drawing) e.outcome in
-    let is : behind list s.drawing ≡ behind (asks_list (command_of line)) (redrawn d line) = ap₂ behind l drawn in
+    let drawn : s.edited.drawing ≡ redrawn d line = ap (λ (x : Edited). x.drawing) e.outcome in
+    let is : behind list s.edited.drawing ≡ behind (asks_list (command_of line)) (redrawn d line) = ap₂ behind l drawn in
     record {
       drawing = drawn;
       lawful = lawful;

@@ -42,7 +42,7 @@ pub(crate) fn rows_step(d: Drawing, line: &[u8], out: &mut [u8]) -> Printed
     let list = asks_list(read_line(line));
     let room: usize = 8192;
     let s = step_on(d, line, NO_TALLY, &mut out[..room]);
-    let drawing = s.drawing;
+    let drawing = s.edited.drawing;
     let at = s.length;
     let length = put_behind(out, at, list, drawing);
     Printed { drawing, length }

@@ -70,8 +70,8 @@ pub(crate) fn save_line<R, W, E: Write>(
     let before = s.line;
     let number = next_line_number(before);
     let a = step_on(d, line, NO_TALLY, out);
-    let told = tell_refusal(streams, number, a.reply, s.told);
-    let drawing = a.drawing;
+    let told = tell_refusal(streams, number, a.edited.reply, s.told);
+    let drawing = a.edited.drawing;
     State {
         drawing,
         line: number,

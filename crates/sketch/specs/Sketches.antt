@@ -1,15 +1,15 @@
 -- A drawing that is given row by row, and what each line adds to it.
-use Rattle.std.specs.Prelude.{Bool, true, false, cond, ◌&&◌, List, ℕ, ◌+◌, ltb, drop, replicate}
+use Rattle.std.specs.Prelude.{Bool, true, false, cond, ◌&&◌, Option, Some, None, List, ℕ, ◌+◌, ltb, drop, replicate}
 use Rattle.label.specs.Labels.{padded}
 use Rattle.sheet.specs.declared.Wire.{Wire}
 use Rattle.sheet.specs.declared.Component.{Component}
 use Rattle.sheet.specs.declared.Joint.{Joint}
 use Rattle.sheet.specs.Drawings.{zero_wire, zero_component, zero_joint}
-use Rattle.check_script.specs.declared.Said.{Said}
-use Rattle.check_script.specs.declared.Said.TheVariants as said
+use Rattle.check_script.specs.Saying.{Said}
+use Rattle.check_script.specs.Saying as said
 use Rattle.sketch.specs.declared.filled.Filled.{Filled}
 use Rattle.sketch.specs.declared.Sketch.{Sketch}
-use Rattle.sketch.specs.declared.Added.{Added}
+use Rattle.table.specs.declared.Table.{Table}
 use Rattle.sketch.specs.Tables.{inserted}
 
 -- ---- how far a table is filled
@@ -35,6 +35,11 @@ count_after f old = cond f.told old f.counted
 
 abbrev pub told_of : Filled → Filled
 told_of f = record { counted = f.counted; used = f.used; told = true }
+
+-- a table of n rows and how far it is filled, with one row more
+abbrev pub row_added : {A : Type 0} {n : ℕ} → Table A n → Filled → Bool → A → Option (Table A n × Filled)
+row_added {A} {n} t f back x =
+    cond (has_room n f) (Some (record { rows = inserted (row_for f back) x t.rows; count = count_after (more_of f back) t.count }, more_of f back)) None
 
 -- ---- a sketch
 
@@ -91,11 +96,21 @@ with_joint s back j =
 
 -- ---- a line: "a line that no row can hold" adds nothing
 
+-- a sketch after a line; or as it was, where no row can hold the line
+pub record Added : Type 0 where
+  pub held : Bool
+  pub sketch : Sketch
+
 abbrev pub held : Sketch → Added
 held s = record { held = true; sketch = s }
 
 abbrev pub not_held : Sketch → Added
 not_held s = record { held = false; sketch = s }
+
+-- what an answer of `add` says of the sketch s
+abbrev pub added_as : Sketch → Option Sketch → Added
+added_as s (Some t) = held t
+added_as s None = not_held s
 
 -- where there is room, t
 abbrev pub held_if : Bool → Sketch → Sketch → Added

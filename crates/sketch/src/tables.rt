@@ -1,53 +1,38 @@
-// A row put into a table: the rows from its place on move one further, and the last one falls out.
+// A row put into a table.
 ghost use Rattle.std.specs.Prelude.{◌≡◌};
 ghost use Rattle.sketch.specs.Tables.{inserted};
+ghost use Rattle.sketch.specs.Sketches.{row_added};
 
-use sheet::{Component, Components, Joint, Joints, Wire, Wires};
+use crate::filled::Filled;
+use table::Table;
 
-pub fn put_wire(t: Wires, at: usize, w: Wire, count: usize) -> Wires
-    ensures { (result.rows ≡ inserted at w t.rows) × (result.count ≡ count) }
+// The rows from the row's place on move one further, and the last one falls out.
+fn put<T: Copy, const N: usize>(t: Table<T, N>, at: usize, row: T, count: usize) -> Table<T, N>
+    ensures { (result.rows ≡ inserted at row t.rows) × (result.count ≡ count) }
 {
-    let mut out = t;
-    out.count = count;
-    let mut carried = w;
-    let mut k = at;
-    while k < 512 {
-        let next = out.rows[k];
-        out.rows[k] = carried;
+    let mut rows = t.rows;
+    let mut carried = row;
+    for k in at..N {
+        let next = rows[k];
+        rows[k] = carried;
         carried = next;
-        k += 1;
     }
-    out
+    Table { rows, count }
 }
 
-pub fn put_component(t: Components, at: usize, c: Component, count: usize) -> Components
-    ensures { (result.rows ≡ inserted at c t.rows) × (result.count ≡ count) }
+// The table with one row more, if it has one left, and how far it is filled then.
+pub fn with_row<T: Copy, const N: usize>(
+    t: Table<T, N>,
+    f: Filled,
+    behind: bool,
+    row: T,
+) -> Option<(Table<T, N>, Filled)>
+    ensures { result ≡ row_added t f behind row }
 {
-    let mut out = t;
-    out.count = count;
-    let mut carried = c;
-    let mut k = at;
-    while k < 128 {
-        let next = out.rows[k];
-        out.rows[k] = carried;
-        carried = next;
-        k += 1;
+    if !f.has_room(N) {
+        return None;
     }
-    out
-}
-
-pub fn put_joint(t: Joints, at: usize, j: Joint, count: usize) -> Joints
-    ensures { (result.rows ≡ inserted at j t.rows) × (result.count ≡ count) }
-{
-    let mut out = t;
-    out.count = count;
-    let mut carried = j;
-    let mut k = at;
-    while k < 1408 {
-        let next = out.rows[k];
-        out.rows[k] = carried;
-        carried = next;
-        k += 1;
-    }
-    out
+    let more = f.more(behind);
+    let table = put(t, f.row_for(behind), row, more.count_after(t.count));
+    Some((table, more))
 }
