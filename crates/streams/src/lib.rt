@@ -19,7 +19,7 @@ pub struct Streams<R, W, E> {
     pub errors: E,
 }
 
-// A program's own.
+// A program's own. What the system gives and takes no contract can say, and nothing else can be said of these three.
 pub fn standard(rt: &HostRuntime) -> Streams<Stdin, Stdout, Stderr> {
     Streams {
         input: rt.stdin(),

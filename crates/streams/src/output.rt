@@ -15,10 +15,11 @@ pub struct Output {
 }
 
 // The sum with a byte more.
+#[tactic(auto, unfolding(crate::specs::Sums::next_sum))]
 fn summed(sum: u32, b: u8) -> u32
     ensures { result ≡ next_sum sum b }
 {
-    ((sum as u64 * 257 + b as u64 + 1) % 4294967291) as u32
+    ((u64::from(sum) * 257 + u64::from(b) + 1) % 4294967291) as u32
 }
 
 // The sum with the bytes of a block.
@@ -26,10 +27,8 @@ fn sum_of(sum: u32, block: &[u8]) -> u32
     ensures { result ≡ sum_of sum block.now }
 {
     let mut s = sum;
-    let mut i = 0;
-    while i < block.len() {
-        s = summed(s, block[i]);
-        i += 1;
+    for b in block {
+        s = summed(s, *b);
     }
     s
 }
