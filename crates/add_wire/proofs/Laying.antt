@@ -1,12 +1,11 @@
 -- The wire edit in one go: the rows before the run, the run and the rows behind it, each cut at the standing joints, are the edit.
-use Prim.Native.Nat.{ℕ, ◌+◌, ◌-◌, ◌≤◌}
+use Prim.Native.Nat.{ℕ, ◌+◌, ◌-◌, ◌≤◌, ◌<◌}
 use native.Mathlib.Omega.{arith}
 use mathlib.Core.Path.{◌≡◌, sym, ap, ◌∙◌, subst}
 use mathlib.Core.List.{List, [], ◌∷◌, ◌++◌, append-nil, append_assoc}
 use mathlib.Core.Bool.{Bool, true, false, not}
 use lib.Dec.{eqb}
-use lib.ListN.{get_or, take, drop, length-take}
-use lib.Seq.{take-take}
+use lib.ListN.{length, get_or, take, drop, length-append}
 use Rattle.symbol.specs.declared.Point.{Point}
 use Rattle.lists.specs.Lists.{◌∈◌, insert}
 use Rattle.std.specs.List.{list_any, filter, flat_map}
@@ -24,20 +23,20 @@ use Rattle.sheet.proofs.Geometry.{On, on_reads, same_dir}
 use Rattle.sheet.proofs.Split.{split_all_no_shorter, all_from}
 use Rattle.sheet.proofs.Rest.{kept_in}
 use Rattle.sheet.proofs.Reach.{run_reaches, within_meets}
-use Rattle.wires.specs.declared.Grown.{Grown}
-use Rattle.wires.specs.Tables.{Grows, Splits}
-use Rattle.wires.proofs.Growing.{grows_as, cut_more, still_full}
-use Rattle.add_wire.specs.Marks.{Marked, Adds, cut_across, cut_from}
+use Rattle.std.specs.Prelude.{Result}
+use Rattle.std.specs.List.{position}
+use Rattle.std.specs.Option.{unwrap_or}
+use Rattle.table.proofs.Positions.{place_is}
+use Rattle.lists.proofs.Tables.{holds_as}
+use Rattle.table.specs.declared.NoRoom.{NoRoom}
+use Rattle.sheet.specs.Tables.{Wires}
+use Rattle.wires.specs.Tables.{Tabled, Grows}
+use Rattle.add_wire.specs.Marks.{Marked, Adds, Over, cut_across, cut_from}
 use Rattle.add_wire.proofs.Pointed.{Aimed, split_cuts}
 use Rattle.add_wire.proofs.Crossing.{cut_across_lem}
 use Rattle.add_wire.proofs.Adding.{adds_more}
 
 -- ---- before the run goes in
-
--- what is kept, split at both ends of the new wire
-pub tips_split : (n : Wire) (ws : List Wire) {a b : Point} {g h r : Grown} → Grows (kept n ws) g → Splits (a ∷ []) g h → Splits (b ∷ []) h r → a ≡ tip low n → b ≡ tip high n → Grows (rest n ws) r
-unfolding rest
-tips_split n ws o p q e f = grows_as (λ i. split_all (e i ∷ f i ∷ []) (kept n ws)) ((cut_more p q).so (kept n ws) o)
 
 -- no wire of the rest meets the new one
 rest_free : (n : Wire) (ws : List Wire) (w : Wire) → w ∈ rest n ws → Meets n w → ⊥
@@ -45,9 +44,9 @@ unfolding rest
 rest_free n ws w m t = let s = all_from (tips n) m in (kept_in n ws s.1).1 (within_meets s.2.within t)
 
 -- with no room for the rest there is none at the end
-pub rest_over : (n : Wire) (ws : List Wire) (ps : List Point) {g : Grown} → Grows (rest n ws) g → g.full ≡ true → Grows (lay_wire n ws ps) g
+pub rest_over : (n : Wire) (ws : List Wire) (ps : List Point) → 512 < length (rest n ws) → 512 < length (lay_wire n ws ps)
 unfolding lay_wire lay
-rest_over n ws ps o e = still_full _ o e (omega (arith, split_all_no_shorter (standing n (rest n ws) ps) (insert first (run n ws) (rest n ws)), length_insert first (run n ws) (rest n ws)))
+rest_over n ws ps h = omega (arith, split_all_no_shorter (standing n (rest n ws) ps) (insert first (run n ws) (rest n ws)), length_insert first (run n ws) (rest n ws))
 
 -- ---- wires split at many points
 
@@ -99,30 +98,45 @@ module _ (n r : Wire) (ws : List Wire) (ps : List Point) {marks : List Bool} (k 
       Q = standing n ws ps
 
 -- the wire ends that stand, then the pads
-standing_marks : (n : Wire) (ws : List Wire) (ps : List Point) {marks : List Bool} → Marked n.vertical (filter (λ p. on p n) (ends ws) ++ filter (λ p. on p n) ps) marks → Marked n.vertical (standing n ws ps) marks
+pub standing_marks : (n : Wire) (ws : List Wire) (ps : List Point) {marks : List Bool} → Marked n.vertical (filter (λ p. on p n) (ends ws) ++ filter (λ p. on p n) ps) marks → Marked n.vertical (standing n ws ps) marks
 unfolding standing
 standing_marks n ws ps {marks} m = subst (λ (l : List Point). Marked n.vertical l marks) (sym (keep_append (λ p. on p n) (ends ws) ps)) m
 
--- ---- on a table
+-- the place of the run among the rows
+pub place_of : (r : Wire) (ws : List Wire) {p : ℕ} → p ≡ unwrap_or (position (first r) ws) (length ws) → p ≡ span (λ v. not (first r v)) ws
+place_of r ws e = e ∙ place_is (first r) ws
 
--- the place of a row is within the table
-pub place_within : (f : Wire → Bool) (rows : List Wire) (count p : ℕ) → p ≡ span f (take count rows) → p ≤ count
-place_within f rows count p e = omega (arith, span_le f (take count rows), length-take count rows)
+pub place_within : (r : Wire) (ws : List Wire) {p : ℕ} → p ≡ unwrap_or (position (first r) ws) (length ws) → p ≤ length ws
+place_within r ws e = omega (arith, place_of r ws e, span_le (λ v. not (first r v)) ws)
 
-pub laid_table : (n r : Wire) (rows : List Wire) (count : ℕ) (ps : List Point) {marks : List Bool} {p : ℕ} {g h k o : Grown} → p ≡ span (λ v. not (first r v)) (take count rows)
-    → Marked n.vertical (filter (λ q. on q n) (ends (take count rows)) ++ filter (λ q. on q n) ps) marks → n.end ≤ 12000 → ((w : Wire) → w ∈ take count rows → Meets n w → ⊥) → r.vertical ≡ n.vertical → r.line ≡ n.line
-    → Grows [] g → Adds (flat_map (cut_across n marks) (drop 0 (take p rows))) g h → Adds (cut_from (λ a. get_or marks a false) n.start (n.end + 1 - n.start) r) h k → Adds (flat_map (cut_across n marks) (drop p (take count rows))) k o
-    → Grows (lay n r (take count rows) ps) o
-laid_table n r rows count ps {marks} {p} {o = o} s m e free d l z a b c =
-    let whole = laid_whole n r (take count rows) ps (standing_marks n (take count rows) ps m) e free p s d l in
-    let same = take-take p count rows (place_within (λ v. not (first r v)) rows count p s) in
-    grows_as (ap (λ (us : List Wire). (flat_map (cut_across n marks) us ++ cut_from (λ a. get_or marks a false) n.start (n.end + 1 - n.start) r) ++ flat_map (cut_across n marks) (drop p (take count rows))) (sym same) ∙ whole)
-    ((adds_more (adds_more a b) c).so [] z)
+-- ---- on a table: the rows before the run, the run, the rows behind it
+
+module _ (n r : Wire) (ws : List Wire) (ps : List Point) {marks : List Bool} {p : ℕ} {front back : List Wire} (s : p ≡ span (λ v. not (first r v)) ws) (m : Marked n.vertical (standing n ws ps) marks) (e : n.end ≤ 12000)
+    (free : (w : Wire) → w ∈ ws → Meets n w → ⊥) (line : (r.vertical ≡ n.vertical) × (r.line ≡ n.line)) (f : front ≡ take p ws) (b : back ≡ drop p ws) where
+  pieces : (flat_map (cut_across n marks) front ++ cut_from (λ a. get_or marks a false) n.start (n.end + 1 - n.start) r) ++ flat_map (cut_across n marks) back ≡ lay n r ws ps
+  pieces = (λ i. (flat_map (cut_across n marks) (f i) ++ cut_from (λ a. get_or marks a false) n.start (n.end + 1 - n.start) r) ++ flat_map (cut_across n marks) (b i)) ∙ laid_whole n r ws ps m e free p s line.0 line.1
+
+  module _ {t : Wires} (z : Tabled [] t) where
+    pub front_over : Over (flat_map (cut_across n marks) front) t → 512 < length (lay n r ws ps)
+    front_over o = let us = flat_map (cut_across n marks) front in let v = cut_from (λ a. get_or marks a false) n.start (n.end + 1 - n.start) r in
+        omega (arith, o.so [] z, ap length pieces, length-append (us ++ v) (flat_map (cut_across n marks) back), length-append us v)
+
+    module _ {h : Wires} (x : Adds (flat_map (cut_across n marks) front) t h) where
+      pub run_over : Over (cut_from (λ a. get_or marks a false) n.start (n.end + 1 - n.start) r) h → 512 < length (lay n r ws ps)
+      run_over o = let us = flat_map (cut_across n marks) front in let v = cut_from (λ a. get_or marks a false) n.start (n.end + 1 - n.start) r in
+          omega (arith, o.so us (x.so [] z), ap length pieces, length-append (us ++ v) (flat_map (cut_across n marks) back))
+
+      module _ {k : Wires} (y : Adds (cut_from (λ a. get_or marks a false) n.start (n.end + 1 - n.start) r) h k) where
+        pub back_over : Over (flat_map (cut_across n marks) back) k → 512 < length (lay n r ws ps)
+        back_over o = omega (arith, o.so _ ((adds_more x y).so [] z), ap length pieces)
+
+        pub laid_table : {o : Wires} → Adds (flat_map (cut_across n marks) back) k o → Tabled (lay n r ws ps) o
+        laid_table a = holds_as pieces ((adds_more (adds_more x y) a).so [] z)
 
 -- the run and the rest as the edit has them
-pub laid_edit : (n : Wire) (ws : List Wire) (ps : List Point) {r : Wire} {vs : List Wire} {o : Grown} → r ≡ run n ws → vs ≡ rest n ws → Grows (lay n r vs ps) o → Grows (lay_wire n ws ps) o
+pub laid_edit : (n : Wire) (ws : List Wire) (ps : List Point) (o : Result Wires NoRoom) {r : Wire} {vs : List Wire} → r ≡ run n ws → vs ≡ rest n ws → Grows (lay n r vs ps) o → Grows (lay_wire n ws ps) o
 unfolding lay_wire
-laid_edit n ws ps e f h = grows_as (λ i. lay n (e i) (f i) ps) h
+laid_edit n ws ps o e f h = subst (λ (l : List Wire). Grows l o) (λ i. lay n (e i) (f i) ps) h
 
 -- what laying asks of them
 pub edit_line : (n : Wire) (ws : List Wire) {r : Wire} → r ≡ run n ws → (r.vertical ≡ n.vertical) × (r.line ≡ n.line)

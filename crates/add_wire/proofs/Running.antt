@@ -27,20 +27,9 @@ run_snoc n (a ∷ ws) w = ap (λ (r : Wire). cond (meets n a) (stretch r a) r) (
     step false true r = refl
     step false false r = refl
 
--- r is the run of n among the first i rows of l
-pub record RunSoFar (n : Wire) (l : List Wire) (i : ℕ) (r : Wire) : Type 0 where
-  pub so_far : r ≡ run n (take i l)
+module _ (n : Wire) (l : List Wire) {i : ℕ} {r : Wire} (d : Wire) (o : r ≡ run n (take i l)) where
+  pub run_yes : meets n (get_or l i d) ≡ true → i < length l → stretch r (get_or l i d) ≡ run n (take (i + 1) l)
+  run_yes e h = ap (λ (t : Wire). stretch t (get_or l i d)) o ∙ sym (ap (run n) (take_more l i d h) ∙ run_snoc n (take i l) (get_or l i d) ∙ rw e)
 
-pub run_start : (n : Wire) (l : List Wire) → RunSoFar n l 0 n
-unfolding run
-run_start n l = record { so_far = refl }
-
-module _ {n : Wire} {l : List Wire} {i : ℕ} {r : Wire} (d : Wire) (o : RunSoFar n l i r) where
-  pub run_yes : meets n (get_or l i d) ≡ true → i < length l → RunSoFar n l (i + 1) (stretch r (get_or l i d))
-  run_yes e h = record { so_far = ap (λ (t : Wire). stretch t (get_or l i d)) o.so_far ∙ sym (ap (run n) (take_more l i d h) ∙ run_snoc n (take i l) (get_or l i d) ∙ rw e) }
-
-  pub run_no : meets n (get_or l i d) ≡ false → i < length l → RunSoFar n l (i + 1) r
-  run_no e h = record { so_far = o.so_far ∙ sym (ap (run n) (take_more l i d h) ∙ run_snoc n (take i l) (get_or l i d) ∙ rw e) }
-
-pub run_end : {n : Wire} {l : List Wire} {i : ℕ} {r : Wire} (m : ℕ) → RunSoFar n l i r → i ≡ m → r ≡ run n (take m l)
-run_end {n} {l} m o e = o.so_far ∙ ap (λ (k : ℕ). run n (take k l)) e
+  pub run_no : meets n (get_or l i d) ≡ false → i < length l → r ≡ run n (take (i + 1) l)
+  run_no e h = o ∙ sym (ap (run n) (take_more l i d h) ∙ run_snoc n (take i l) (get_or l i d) ∙ rw e)

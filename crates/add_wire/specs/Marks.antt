@@ -1,13 +1,13 @@
 -- Below the calls: "Cut the run at each joint still standing": joints on the new wire as marks along it, and wires cut at the marks.
-use Rattle.std.specs.Prelude.{ℕ, zero, suc, ◌≤◌, ◌≡◌, List, [], ◌∷◌, ◌++◌, Bool, false, ◌&&◌, cond, not, eqb, ltb, length, get_or}
+use Rattle.std.specs.Prelude.{ℕ, zero, suc, ◌≤◌, ◌<◌, ◌≡◌, List, [], ◌∷◌, ◌++◌, Bool, false, ◌&&◌, cond, not, eqb, ltb, length, get_or}
 use Rattle.std.specs.Bool.{beq}
 use Rattle.symbol.specs.declared.Point.{Point}
 use Rattle.std.specs.List.{list_any}
 use Rattle.sheet.specs.declared.Wire.{Wire}
 use Rattle.sheet.specs.Geometry.{along, point, on, inside}
 use Rattle.sheet.specs.Split.{up_to, from_on, left, right}
-use Rattle.wires.specs.declared.Grown.{Grown}
-use Rattle.wires.specs.Tables.{Grows}
+use Rattle.sheet.specs.Tables.{Wires}
+use Rattle.wires.specs.Tables.{Tabled}
 
 -- a place along the direction is marked exactly when a point of the list lies there
 pub record Marked (d : Bool) (qs : List Point) (marks : List Bool) : Type 0 where
@@ -18,9 +18,13 @@ pub record Marked (d : Bool) (qs : List Point) (marks : List Bool) : Type 0 wher
 pub record More (d : Bool) (marks : List Bool) (qs : List Point) (next : List Bool) : Type 0 where
   pub so : (ps : List Point) → Marked d ps marks → Marked d (ps ++ qs) next
 
--- r is g with the wires put behind its rows, whatever list g stands for
-pub record Adds (vs : List Wire) (g r : Grown) : Type 0 where
-  pub so : (ws : List Wire) → Grows ws g → Grows (ws ++ vs) r
+-- r is the table t with the wires put behind its rows, whatever list t holds
+pub record Adds (vs : List Wire) (t r : Wires) : Type 0 where
+  pub so : (ws : List Wire) → Tabled ws t → Tabled (ws ++ vs) r
+
+-- t has no room for the wires behind its rows
+pub record Over (vs : List Wire) (t : Wires) : Type 0 where
+  pub so : (ws : List Wire) → Tabled ws t → 512 < length (ws ++ vs)
 
 -- ---- the run
 

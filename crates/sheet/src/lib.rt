@@ -13,6 +13,14 @@ pub struct Wire {
     pub end: u16,
 }
 
+// A row with no wire.
+pub const ZERO_WIRE: Wire = Wire {
+    vertical: false,
+    line: 0,
+    start: 0,
+    end: 0,
+};
+
 // kind: 0 Power, 1 Contact, 2 Coil; orientation: the number of one of the eight, 0 to 7; label: its bytes with zeros behind.
 #[derive(Clone, Copy, PartialEq, Eq)]
 pub struct Component {
@@ -23,6 +31,15 @@ pub struct Component {
     pub label: [u8; 16],
 }
 
+// A row with no component.
+pub const ZERO_COMPONENT: Component = Component {
+    kind: 0,
+    orientation: 0,
+    x: 0,
+    y: 0,
+    label: [0; 16],
+};
+
 // A point with wire ends or pads, and the number of both.
 #[derive(Clone, Copy, PartialEq, Eq)]
 pub struct Joint {
@@ -30,6 +47,13 @@ pub struct Joint {
     pub y: u16,
     pub count: u16,
 }
+
+// A row with no joint.
+pub const ZERO_JOINT: Joint = Joint {
+    x: 0,
+    y: 0,
+    count: 0,
+};
 
 pub type Wires = Table<Wire, 512>;
 

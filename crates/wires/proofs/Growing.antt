@@ -1,90 +1,57 @@
--- A table with room or without: what `Grows` and `Splits` say by cases, how cuts follow one another, and that the contracts leave one answer.
-use Prim.Native.Nat.{◌≤◌, ◌<◌}
-use native.Mathlib.Omega.{arith}
-use mathlib.Core.Path.{◌≡◌, sym, ap, ◌∙◌, subst}
-use mathlib.Core.List.{List, [], ◌∷◌, ◌++◌}
-use mathlib.Core.Bool.{Bool, true, false, cond}
-use borrow.Author.Tests.{lt-ltb, le-ltb, ltb-true}
-use lib.Dec.{ltb}
-use lib.ListN.{length}
+-- A table with room or without: how cuts follow one another, and that the contracts leave one answer.
+use Rattle.std.proofs.Common.{arith, ℕ, ◌+◌, ◌≤◌, ◌<◌, ◌≡◌, ◌∙◌, sym, ap, subst, List, [], ◌∷◌, ◌++◌, length, take, drop, get_or}
+use Rattle.std.specs.Prelude.{Result, Ok, Err, cond, ltb}
+use borrow.Author.Tests.{lt-ltb, le-ltb}
+use lib.ListN.{take-append-drop}
+use Rattle.lists.proofs.Passes.{take_more}
 use Rattle.symbol.specs.declared.Point.{Point}
-use Rattle.lists.specs.Tables.{pad}
-use Rattle.lists.proofs.Tables.{holds_list, holds_self, holds_count}
+use Rattle.table.specs.declared.NoRoom.{NoRoom}
+use Rattle.lists.proofs.Tables.{holds_list}
 use Rattle.sheet.specs.declared.Wire.{Wire}
 use Rattle.sheet.specs.Tables.{Wires}
 use Rattle.sheet.specs.Split.{split_at, split_all}
-use Rattle.sheet.specs.Drawings.{zero_wire, wire_table, wire_rows}
-use Rattle.sheet.proofs.Split.{split_no_shorter, split_all_append}
-use Rattle.wires.specs.declared.Grown.{Grown}
+use Rattle.sheet.specs.Drawings.{wire_table, wire_rows}
+use Rattle.sheet.proofs.Split.{split_all_no_shorter, split_all_append}
 use Rattle.wires.specs.Tables.{Tabled, Grows, Splits}
 
--- the one answer for a list
-abbrev pub grown : List Wire → Grown
-grown ws = record { full = ltb 512 (length ws); table = wire_table (cond (ltb 512 (length ws)) [] ws) }
+-- ---- points one after another
 
--- ---- Grows
+-- r is what t is split at the points, whatever list t holds
+pub record Cut (ps : List Point) (t r : Wires) : Type 0 where
+  pub so : (ws : List Wire) → Tabled ws t → Tabled (split_all ps ws) r
 
-pub grows_full : {g : Grown} (ws : List Wire) → g.full ≡ true → Tabled [] g.table → 512 < length ws → Grows ws g
-grows_full {g} ws e h l = record {
-  full_is = e ∙ sym (lt-ltb 512 (length ws) l);
-  holds = subst (λ (b : Bool). Tabled (cond b [] ws) g.table) (sym e) h;
-}
-
-pub grows_room : {g : Grown} (ws : List Wire) → g.full ≡ false → Tabled ws g.table → Grows ws g
-grows_room {g} ws e h = record {
-  full_is = e ∙ sym (le-ltb 512 (length ws) h.room);
-  holds = subst (λ (b : Bool). Tabled (cond b [] ws) g.table) (sym e) h;
-}
-
--- what the table holds, by the flag
-pub when_room : {g : Grown} {ws : List Wire} → Grows ws g → g.full ≡ false → Tabled ws g.table
-when_room {g} {ws} h e = subst (λ (b : Bool). Tabled (cond b [] ws) g.table) e h.holds
-
-pub when_full : {g : Grown} {ws : List Wire} → Grows ws g → g.full ≡ true → Tabled [] g.table × (512 < length ws)
-when_full {g} {ws} h e = (subst (λ (b : Bool). Tabled (cond b [] ws) g.table) e h.holds, ltb-true 512 (length ws) (sym h.full_is ∙ e))
-
--- with no room for a list, there is none for a longer one
-pub still_full : {g : Grown} {ws : List Wire} (vs : List Wire) → Grows ws g → g.full ≡ true → length ws ≤ length vs → Grows vs g
-still_full vs h e l = let o = when_full h e in grows_full vs e o.0 (omega arith)
-
-pub grows_as : {g : Grown} {ws vs : List Wire} → ws ≡ vs → Grows ws g → Grows vs g
-grows_as {g} e h = subst (λ (l : List Wire). Grows l g) e h
-
--- whatever list it stands for, the table holds its own rows, within the room
-pub grows_table : {g : Grown} {ws : List Wire} → Grows ws g → Tabled (wire_rows g.table) g.table
-grows_table h = holds_self h.holds
-
-pub grows_count : {g : Grown} {ws : List Wire} → Grows ws g → g.table.count ≤ 512
-grows_count h = holds_count h.holds
-
--- ---- Cut
-
-pub cut_none : (g : Grown) → g.table.count ≤ 512 → Splits [] g g
+pub cut_none : (t : Wires) → Cut [] t t
 unfolding split_all
-cut_none g h = record { room = h; so = λ ws k. k }
+cut_none t = record { so = λ ws h. h }
 
-pub cut_more : {ps qs : List Point} {g h k : Grown} → Splits ps g h → Splits qs h k → Splits (ps ++ qs) g k
-cut_more {ps} {qs} a b = record { room = b.room; so = λ ws o. grows_as (sym (split_all_append ps qs ws)) (b.so (split_all ps ws) (a.so ws o)) }
+module _ (points : List Point) {i : ℕ} {t r : Wires} (d : Point) (c : Cut (take i points) t r) (l : i < length points) where
+  -- at one point more
+  one_more : (ws : List Wire) → Tabled ws t → split_at (get_or points i d) (wire_rows r) ≡ split_all (take (i + 1) points) ws
+  unfolding split_all
+  one_more ws h =
+      ap (split_at (get_or points i d)) (holds_list (c.so ws h)) ∙ sym (split_all_append (take i points) (get_or points i d ∷ []) ws)
+      ∙ ap (λ (ps : List Point). split_all ps ws) (sym (take_more points i d l))
 
-pub cut_as : {ps qs : List Point} {g k : Grown} → ps ≡ qs → Splits ps g k → Splits qs g k
-cut_as {g = g} {k} e c = subst (λ (l : List Point). Splits l g k) e c
+  pub cut_next : {s : Wires} → Tabled (split_at (get_or points i d) (wire_rows r)) s → Cut (take (i + 1) points) t s
+  cut_next {s} k = record { so = λ ws h. subst (λ (l : List Wire). Tabled l s) (one_more ws h) k }
 
--- one point, of a table with no room and of one with
-pub cut_full : (p : Point) (g : Grown) → g.full ≡ true → g.table.count ≤ 512 → Splits (p ∷ []) g g
-unfolding split_all
-cut_full p g e h = record { room = h; so = λ ws o. still_full (split_at p ws) o e (split_no_shorter p ws) }
-
-pub cut_room : (p : Point) (g : Grown) {r : Grown} → g.full ≡ false → Grows (split_at p (wire_rows g.table)) r → Splits (p ∷ []) g r
-unfolding split_all
-cut_room p g e h = record { room = grows_count h; so = λ ws o. grows_as (ap (split_at p) (holds_list (when_room o e))) h }
+  -- with no room for a list there is none for one that is split further
+  pub cut_full : 512 < length (split_at (get_or points i d) (wire_rows r)) → (ws : List Wire) → Tabled ws t → 512 < length (split_all points ws)
+  cut_full k ws h =
+      let more = split_all_no_shorter (drop (i + 1) points) (split_all (take (i + 1) points) ws) in
+      let whole : split_all (drop (i + 1) points) (split_all (take (i + 1) points) ws) ≡ split_all points ws =
+          sym (split_all_append (take (i + 1) points) (drop (i + 1) points) ws) ∙ ap (λ (ps : List Point). split_all ps ws) (take-append-drop (i + 1) points) in
+      omega (arith, more, ap length whole, ap length (one_more ws h))
 
 -- ---- one answer
 
 pub tabled_is : {ws : List Wire} {t : Wires} → Tabled ws t → t ≡ wire_table ws
 tabled_is h = λ i. record { rows = h.rows_are i; count = h.count_is i }
 
-pub grows_is : {ws : List Wire} {g : Grown} → Grows ws g → g ≡ grown ws
-grows_is {ws} {g} h =
-    let r = h.holds.rows_are ∙ ap (λ (b : Bool). pad 512 zero_wire (cond b [] ws)) h.full_is in
-    let n = h.holds.count_is ∙ ap (λ (b : Bool). length (cond b [] ws)) h.full_is in
-    λ i. record { full = h.full_is i; table = record { rows = r i; count = n i } }
+-- the one answer for a list
+abbrev pub grown : List Wire → Result Wires NoRoom
+grown ws = cond (ltb 512 (length ws)) (Err record {}) (Ok (wire_table ws))
+
+pub grows_is : (ws : List Wire) (g : Result Wires NoRoom) → Grows ws g → g ≡ grown ws
+grows_is ws (Ok t) h = rw (le-ltb 512 (length ws) h.room) (ap (λ (t : Wires). Ok t) (tabled_is h))
+grows_is ws (Err e) h = rw (lt-ltb 512 (length ws) h) (λ i. Err e)

@@ -46,13 +46,15 @@ pub fn high_tip(w: Wire) -> Point
 }
 
 // The two points are one.
+#[tactic(auto, unfolding(sheet::specs::Points::same))]
 pub fn same(p: Point, q: Point) -> bool
     ensures { result ≡ Points.same p q }
 {
-    (p.x == q.x) & (p.y == q.y)
+    p == q
 }
 
 // The point lies strictly inside the wire.
+#[tactic(auto, unfolding(sheet::specs::Geometry::inside))]
 pub fn inside(p: Point, w: Wire) -> bool
     ensures { result ≡ Geometry.inside p w }
 {
@@ -62,6 +64,7 @@ pub fn inside(p: Point, w: Wire) -> bool
 }
 
 // The point lies on the wire, both ends included.
+#[tactic(auto, unfolding(sheet::specs::Geometry::on))]
 pub fn on(p: Point, w: Wire) -> bool
     ensures { result ≡ Geometry.on p w }
 {
@@ -71,6 +74,7 @@ pub fn on(p: Point, w: Wire) -> bool
 }
 
 // The two wires are of one direction and one line and share a point, an end touch included.
+#[tactic(auto, unfolding(sheet::specs::Geometry::meets))]
 pub fn meets(n: Wire, w: Wire) -> bool
     ensures { result ≡ Geometry.meets n w }
 {
@@ -78,6 +82,7 @@ pub fn meets(n: Wire, w: Wire) -> bool
 }
 
 // Row order: horizontal wires before vertical ones, then by line, then by start.
+#[tactic(auto, using(crate::proofs::Cases::first_start, crate::proofs::Cases::first_line), unfolding(sheet::specs::Geometry::first))]
 pub fn first(a: Wire, b: Wire) -> bool
     ensures { result ≡ Geometry.first a b }
 {

@@ -1,33 +1,25 @@
 // Wires that the square about the pointer does not meet.
-ghost use Rattle.std.specs.Prelude.{◌≡◌, not, ◌≤◌, ◌-◌};
+ghost use Rattle.std.specs.Prelude.{◌≡◌, not, ◌≤◌, length};
 ghost use Rattle.std.specs.List.{filter};
 ghost use Rattle.symbol.specs.Symbols.{touches_of};
 ghost use Rattle.sheet.specs.Boxes;
 ghost use Rattle.sheet.specs.Edits.{meets_wire};
-ghost use Rattle.sheet.specs.Drawings.{wire_rows};
 ghost use Rattle.wires.specs.Tables.{Tabled};
 
 use crate::geometry::{high_tip, low_tip};
-use crate::no_wires;
-use sheet::{Wire, Wires};
+use sheet::{Wire, Wires, ZERO_WIRE};
 use symbol::{Bounds, Point, touches};
-
-// a less b, and 0 where b is greater.
-fn less(a: u16, b: u16) -> u16
-    ensures { result ≡ a - b }
-{
-    if b <= a { a - b } else { 0 }
-}
 
 // The square of half-width size about the pointer.
 pub fn square(p: Point, size: u16) -> Bounds
     requires { (p.x ≤ 12000) × ((p.y ≤ 12000) × (size ≤ 1000)) }
     ensures { result ≡ Boxes.square p size }
 {
-    let left = less(p.x, size);
-    let top = less(p.y, size);
     Bounds {
-        low: Point { x: left, y: top },
+        low: Point {
+            x: p.x.saturating_sub(size),
+            y: p.y.saturating_sub(size),
+        },
         high: Point {
             x: p.x + size,
             y: p.y + size,
@@ -39,37 +31,31 @@ pub fn square(p: Point, size: u16) -> Bounds
 fn hits(b: Bounds, w: Wire) -> bool
     ensures { result ≡ touches_of b (Boxes.line w) }
 {
-    let low = low_tip(w);
-    let high = high_tip(w);
-    let line = Bounds { low, high };
+    let line = Bounds {
+        low: low_tip(w),
+        high: high_tip(w),
+    };
     touches(b, line)
 }
 
 // The wires whose line the box does not meet, in order.
-fn keep_clear(ws: Wires, b: Bounds) -> Wires
-    requires { ws.count ≤ 512 }
-    ensures { Tabled (filter (λ w. not (touches_of b (Boxes.line w))) (wire_rows ws)) result }
+fn keep_clear(ws: &[Wire], b: Bounds) -> Wires
+    requires { length ws.now ≤ 512 }
+    ensures { Tabled (filter (λ w. not (touches_of b (Boxes.line w))) ws.now) result }
 {
-    let n = ws.count;
-    let mut out = no_wires();
-    let mut i = 0;
-    while i < n {
-        let w = ws.rows[i];
-        if !hits(b, w) {
-            let k = out.count;
-            out.rows[k] = w;
-            out.count = k + 1;
+    let mut out = Wires::empty(ZERO_WIRE);
+    for w in ws {
+        if !hits(b, *w) {
+            out.push(*w);
         }
-        i += 1;
     }
     out
 }
 
 // The wires whose line the square of half-width size about the pointer does not meet, in order.
-pub fn keep_unhit(ws: Wires, p: Point, size: u16) -> Wires
-    requires { (ws.count ≤ 512) × ((p.x ≤ 12000) × ((p.y ≤ 12000) × (size ≤ 1000))) }
-    ensures { Tabled (filter (λ w. not (meets_wire p size w)) (wire_rows ws)) result }
+pub fn keep_unhit(ws: &[Wire], p: Point, size: u16) -> Wires
+    requires { (length ws.now ≤ 512) × ((p.x ≤ 12000) × ((p.y ≤ 12000) × (size ≤ 1000))) }
+    ensures { Tabled (filter (λ w. not (meets_wire p size w)) ws.now) result }
 {
-    let b = square(p, size);
-    keep_clear(ws, b)
+    keep_clear(ws, square(p, size))
 }

@@ -1,14 +1,32 @@
 -- The rows before the run, the run and the rows behind it, each cut at the standing joints.
-use mathlib.Core.Path.{refl}
-use Rattle.wires.proofs.Growing.{grows_room}
-use Rattle.add_wire.proofs.Laying.{place_within, laid_table}
-use native.Mathlib.Omega.{arith}
+use Rattle.std.proofs.Common.{◌∙◌, ap, length}
+use Rattle.std.specs.Option.{unwrap_or}
+use Rattle.std.proofs.lemmas.Result.{MatchResult-from_err}
+use Rattle.sheet.specs.Geometry.{first}
+use Rattle.lists.proofs.Insert.{span_le}
+use Rattle.table.proofs.Positions.{place_is}
+use Rattle.table.proofs.Rows.{empty_holds}
+use Rattle.add_wire.proofs.Laying.{front_over, run_over, back_over, laid_table, place_of, place_within}
 use Rattle.add_wire.proofs.laid.Goals as goal
 
-pub cut_rows-front-requires : goal.cut_rows-front-requires
-cut_rows-front-requires c = (omega (arith, c.requires.rooms.0, place_within _ c.args.t.rows c.args.t.count _ c.rows_before-p.ensures), c.requires.rooms.1.1)
+pub split_at-requires : goal.split_at-requires
+split_at-requires c = place_within _ _ (c.unwrap_or.ensures ∙ ap (λ o. unwrap_or o (length c.args.ws.now)) c.row_after.ensures)
+
+pub returns-in_err-cut_rows : goal.returns-in_err-cut_rows
+returns-in_err-cut_rows c = let q = c.requires in
+    MatchResult-from_err _ _ _ c.from_residual.ensures.0
+    (λ _. front_over _ _ _ c.args.pads.now (place_of _ _ (c.unwrap_or.ensures ∙ ap (λ o. unwrap_or o (length c.args.ws.now)) c.row_after.ensures)) c.standing-marks.ensures q.low q.unmet q.same_line c.split_at.ensures.front c.split_at.ensures.back (empty_holds c.empty-out.ensures) c.in_err-cut_rows.ensures)
+
+pub returns-in_err-cut_run : goal.returns-in_err-cut_run
+returns-in_err-cut_run c = let q = c.requires in
+    MatchResult-from_err _ _ _ c.from_residual-in_err-cut_run.ensures.0
+    (λ _. run_over _ _ _ c.args.pads.now (place_of _ _ (c.unwrap_or.ensures ∙ ap (λ o. unwrap_or o (length c.args.ws.now)) c.row_after.ensures)) c.standing-marks.ensures q.low q.unmet q.same_line c.split_at.ensures.front c.split_at.ensures.back (empty_holds c.empty-out.ensures) c.in_ok-cut_rows.ensures c.in_err-cut_run.ensures)
+
+pub returns-in_err-cut_rows-2 : goal.returns-in_err-cut_rows-2
+returns-in_err-cut_rows-2 c = let q = c.requires in
+    MatchResult-from_err _ _ _ c.from_residual-in_err-cut_rows-2.ensures.0
+    (λ _. back_over _ _ _ c.args.pads.now (place_of _ _ (c.unwrap_or.ensures ∙ ap (λ o. unwrap_or o (length c.args.ws.now)) c.row_after.ensures)) c.standing-marks.ensures q.low q.unmet q.same_line c.split_at.ensures.front c.split_at.ensures.back (empty_holds c.empty-out.ensures) c.in_ok-cut_rows.ensures c.in_ok-cut_run.ensures c.in_err-cut_rows-2.ensures)
 
 pub returns : goal.returns
 returns c = let q = c.requires in
-    laid_table _ _ c.args.t.rows c.args.t.count _ c.rows_before-p.ensures (c.mark_pads-marks.ensures.so _ c.mark_ends-ends.ensures) q.rooms.1.1 q.unmet q.same_line.0 q.same_line.1
-    (grows_room _ refl c.no_wires-table.ensures) c.cut_rows-front.ensures c.cut_run-mid.ensures c.cut_rows.ensures
+    laid_table _ _ _ c.args.pads.now (place_of _ _ (c.unwrap_or.ensures ∙ ap (λ o. unwrap_or o (length c.args.ws.now)) c.row_after.ensures)) c.standing-marks.ensures q.low q.unmet q.same_line c.split_at.ensures.front c.split_at.ensures.back (empty_holds c.empty-out.ensures) c.in_ok-cut_rows.ensures c.in_ok-cut_run.ensures c.in_ok-cut_rows-2.ensures

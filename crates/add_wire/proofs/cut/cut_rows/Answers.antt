@@ -1,35 +1,44 @@
--- Rows behind rows: what is done and what the rows left give are the whole; with no room for the next there is none for all.
-use mathlib.Core.Path.{refl, sym, ◌∙◌}
-use Rattle.lists.proofs.Tables.{long, holds_push, holds_push_two}
+-- A pass; with no room for the next row's parts there is none for all.
+use Rattle.std.proofs.Common.{arith, sym, ap, ◌∙◌}
+use Rattle.std.proofs.lemmas.Result.{MatchResult-from_err}
+use Rattle.lists.proofs.Passes.{pass_start, pass_next}
+use Rattle.sheet.specs.Tables.{Wires}
+use Rattle.table.proofs.Rows.{pushed_holds, pushed_two}
+use Rattle.table.proofs.Passing.{pass_whole, pass_all}
 use Rattle.add_wire.proofs.Crossed.{across_cut, across_whole}
-use Rattle.add_wire.proofs.Adding.{add_start, add_next, add_over, add_end, adds_full, adds_room}
-use native.Mathlib.Omega.{arith}
+use Rattle.add_wire.proofs.Adding.{adds_none, adds_next, adds_over}
 use Rattle.add_wire.proofs.cut.cut_rows.Goals as goal
-use Rattle.add_wire.proofs.cut.cut_rows.Goals.{then-is_crossed+else-k-ge511, else-is_crossed+else-k-ge512}
+use Rattle.add_wire.proofs.cut.cut_rows.Goals.{then-is_crossed+in_ok-try_push+in_ok-try_push-2, else-is_crossed+in_ok-try_push-3}
 
-pub returns-then-g : goal.returns-then-g
-returns-then-g c = adds_full _ c.if-g.true
+pub loop-w-init : goal.loop-w-init
+loop-w-init c = pass_start _ _ (adds_none _)
 
-pub loop-i-init : goal.loop-i-init
-loop-i-init c = (search long, add_start _ _ _ _ _ refl)
+pub returns-in_err-try_push : goal.returns-in_err-try_push
+returns-in_err-try_push c =
+    let e = across_cut _ _ _ (sym c.is_crossed.ensures ∙ c.if-is_crossed.true) in
+    MatchResult-from_err _ _ _ c.from_residual.ensures.0 (λ _. adds_over 2 c.loop-w.invariant.so_far (omega (arith, c.in_err-try_push.ensures.0)) (pass_whole _ c.loop-w.invariant e c.loop-w-test.true))
 
-pub is_crossed-requires : goal.is_crossed-requires
-is_crossed-requires c = c.requires.1
+pub returns-in_err-try_push-2 : goal.returns-in_err-try_push-2
+returns-in_err-try_push-2 c =
+    let e = across_cut _ _ _ (sym c.is_crossed.ensures ∙ c.if-is_crossed.true) in
+    MatchResult-from_err _ _ _ c.from_residual-in_err-try_push-2.ensures.0 (λ _. adds_over 2 c.loop-w.invariant.so_far (omega (arith, ap (λ (t : Wires). t.count) c.in_ok-try_push.ensures.1, c.in_err-try_push-2.ensures.0)) (pass_whole _ c.loop-w.invariant e c.loop-w-test.true))
 
-pub returns-then-k-ge511 : goal.returns-then-k-ge511
-returns-then-k-ge511 c = let s = c.loop-i.invariant.1 in
-    adds_room _ c.if-g.false (add_over _ s (across_cut _ _ _ (sym c.is_crossed.ensures ∙ c.if-is_crossed.true)) c.no_room.ensures (omega arith) (omega arith) (omega arith))
+pub returns-in_err-try_push-3 : goal.returns-in_err-try_push-3
+returns-in_err-try_push-3 c =
+    let e = across_whole _ _ _ (sym c.is_crossed.ensures ∙ c.if-is_crossed.false) in
+    MatchResult-from_err _ _ _ c.from_residual-in_err-try_push-3.ensures.0 (λ _. adds_over 1 c.loop-w.invariant.so_far (omega (arith, c.in_err-try_push-3.ensures.0)) (pass_whole _ c.loop-w.invariant e c.loop-w-test.true))
 
-pub returns-then-k-ge512 : goal.returns-then-k-ge512
-returns-then-k-ge512 c = let s = c.loop-i.invariant.1 in
-    adds_room _ c.if-g.false (add_over _ s (across_whole _ _ _ (sym c.is_crossed.ensures ∙ c.if-is_crossed.false)) c.no_room-then-k-ge512.ensures (omega arith) (omega arith) (omega arith))
-
-pub loop-i-preserved : goal.loop-i-preserved
-loop-i-preserved c = let s = c.loop-i.invariant.1 in
+pub loop-w-preserved : goal.loop-w-preserved
+loop-w-preserved c =
+    let s = c.loop-w.invariant in
     elim c.if-is_crossed.branch [
-      | then-is_crossed+else-k-ge511 w ↦ (omega arith, rw (w.out-is, w.left-a.ensures, w.right-b.ensures, w.point_of-p.ensures) (add_next _ s (across_cut _ _ _ (sym c.is_crossed.ensures ∙ w.if-is_crossed.true)) (λ xs h. holds_push_two _ _ h (omega arith)) (omega arith) (omega arith)))
-      | else-is_crossed+else-k-ge512 w ↦ (omega arith, rw w.out-is (add_next _ s (across_whole _ _ _ (sym c.is_crossed.ensures ∙ w.if-is_crossed.false)) (λ xs h. holds_push _ h (omega arith)) (omega arith) (omega arith)))
+      | then-is_crossed+in_ok-try_push+in_ok-try_push-2 w ↦
+          let e = across_cut _ _ _ (sym c.is_crossed.ensures ∙ w.if-is_crossed.true) in
+          rw w.out-is (pass_next _ s e (adds_next s.so_far (λ xs h. pushed_two h (rw w.point_of-p.ensures at w.left.ensures) (rw w.point_of-p.ensures at w.right.ensures) w.in_ok-try_push.ensures w.in_ok-try_push-2.ensures)) c.loop-w-test.true)
+      | else-is_crossed+in_ok-try_push-3 w ↦
+          let e = across_whole _ _ _ (sym c.is_crossed.ensures ∙ w.if-is_crossed.false) in
+          rw w.out-is (pass_next _ s e (adds_next s.so_far (λ xs h. pushed_holds _ h w.in_ok-try_push-3.ensures.0 w.in_ok-try_push-3.ensures.1)) c.loop-w-test.true)
     ]
 
 pub returns : goal.returns
-returns c = adds_room _ c.if-g.false (add_end c.loop-i.invariant.1 (omega arith) (omega arith))
+returns c = pass_all c.loop-w.invariant c.loop-w-test.false

@@ -1,20 +1,21 @@
--- A fold: after i rows the run reaches to the outermost ends of those of them that it meets.
-use mathlib.Core.Path.{sym, ◌∙◌}
-use Rattle.lists.proofs.Tables.{long}
-use Rattle.add_wire.proofs.Running.{run_start, run_yes, run_no, run_end}
-use native.Mathlib.Omega.{arith}
+-- A fold: the run reaches to the outermost ends of those of the rows passed that it meets.
+use Rattle.std.proofs.Common.{arith, refl, sym, ap, ◌∙◌}
+use lib.Seq.{take_all}
+use Rattle.sheet.specs.Run.{run}
+use Rattle.add_wire.proofs.Running.{run_yes, run_no}
 use Rattle.add_wire.proofs.run.run_of.Goals as goal
 use Rattle.add_wire.proofs.run.run_of.Goals.{then-meets, else-meets}
 
-pub loop-i-init : goal.loop-i-init
-loop-i-init c = (omega arith, search long, run_start _ _)
+pub loop-w-init : goal.loop-w-init
+unfolding run
+loop-w-init c = refl
 
-pub loop-i-preserved : goal.loop-i-preserved
-loop-i-preserved c = let s = c.loop-i.invariant.2 in
+pub loop-w-preserved : goal.loop-w-preserved
+loop-w-preserved c =
     elim c.if-meets.branch [
-      | then-meets w ↦ (omega arith, omega arith, rw (w.r-is, w.stretch-r.ensures) (run_yes _ s (sym c.meets.ensures ∙ w.if-meets.true) (omega arith)))
-      | else-meets w ↦ (omega arith, omega arith, rw w.r-is (run_no _ s (sym c.meets.ensures ∙ w.if-meets.false) (omega arith)))
+      | then-meets w ↦ rw (w.r-is, w.stretch-r.ensures) (run_yes _ _ _ c.loop-w.invariant (sym c.meets.ensures ∙ w.if-meets.true) c.loop-w-test.true)
+      | else-meets w ↦ rw w.r-is (run_no _ _ _ c.loop-w.invariant (sym c.meets.ensures ∙ w.if-meets.false) c.loop-w-test.true)
     ]
 
 pub returns : goal.returns
-returns c = run_end c.args.ws.count c.loop-i.invariant.2 (omega arith)
+returns c = c.loop-w.invariant ∙ ap (run c.args.n) (take_all c.loop-w.w-index c.args.ws.now c.loop-w-test.false)

@@ -1,40 +1,49 @@
--- A pass: after i rows the table holds what splitting made of them; with no room for the next row's parts there is none for all.
-use mathlib.Core.Path.{refl, sym, ◌∙◌}
+-- With no room for the next row's parts there is none for all.
+use Rattle.std.proofs.Common.{arith, sym, ◌∙◌, ◌<◌, length}
+use Rattle.std.proofs.lemmas.Result.{MatchResult-from_err}
 use Rattle.sheet.specs.Split.{split_at}
-use Rattle.lists.proofs.Tables.{long, holds_push, holds_push_two}
-use Rattle.lists.proofs.Passes.{pass_start, pass_next, pass_room, pass_end}
+use Rattle.lists.proofs.Passes.{pass_next}
+use Rattle.table.proofs.Rows.{pushed_holds, pushed_two}
+use Rattle.lists.proofs.Tables.{length_snoc}
+use Rattle.sheet.specs.declared.Wire.{Wire}
+use Rattle.table.proofs.Passing.{pass_whole, pass_all}
 use Rattle.wires.proofs.Cases.{split_inside, split_outside}
-use Rattle.wires.proofs.Growing.{grows_room}
-use native.Mathlib.Omega.{arith}
 use Rattle.wires.proofs.split.split_at.Goals as goal
-use Rattle.wires.proofs.split.split_at.Goals.{then-inside+else-k-ge511, else-inside+else-k-ge512}
+use Rattle.wires.proofs.split.split_at.Goals.{then-inside+in_ok-try_push+in_ok-try_push-2, else-inside+in_ok-try_push-3}
 
-pub loop-i-init : goal.loop-i-init
-loop-i-init c = (omega arith, search long, pass_start _ _ c.no_wires-out.ensures)
-
-pub returns-then-k-ge511 : goal.returns-then-k-ge511
+pub returns-in_err-try_push : goal.returns-in_err-try_push
 unfolding split_at
-returns-then-k-ge511 c = let s = c.loop-i.invariant.2 in
-    let e = split_inside _ _ (sym c.inside.ensures ∙ c.if-inside.true) in
-    c.no_room.ensures _ (omega (arith, s.so_far.count_is, pass_room c.args.ws.count _ s e (omega arith) (omega arith)))
+returns-in_err-try_push c =
+    let s = c.loop-w.invariant.so_far.count_is in
+    let more = pass_whole _ c.loop-w.invariant (split_inside _ _ (sym c.inside.ensures ∙ c.if-inside.true)) c.loop-w-test.true in
+    MatchResult-from_err _ _ _ c.from_residual.ensures.0 (λ _. omega (arith, c.in_err-try_push.ensures.0))
 
-pub returns-then-k-ge512 : goal.returns-then-k-ge512
+pub returns-in_err-try_push-2 : goal.returns-in_err-try_push-2
 unfolding split_at
-returns-then-k-ge512 c = let s = c.loop-i.invariant.2 in
-    let e = split_outside _ _ (sym c.inside.ensures ∙ c.if-inside.false) in
-    c.no_room-then-k-ge512.ensures _ (omega (arith, s.so_far.count_is, pass_room c.args.ws.count _ s e (omega arith) (omega arith)))
+returns-in_err-try_push-2 c =
+    let s = pushed_holds _ c.loop-w.invariant.so_far c.in_ok-try_push.ensures.0 c.in_ok-try_push.ensures.1 in
+    let more = pass_whole _ c.loop-w.invariant (split_inside _ _ (sym c.inside.ensures ∙ c.if-inside.true)) c.loop-w-test.true in
+    MatchResult-from_err _ _ _ c.from_residual-in_err-try_push-2.ensures.0 (λ _. omega (arith, s.count_is, length_snoc {A = Wire}, c.in_err-try_push-2.ensures.0))
 
-pub loop-i-preserved : goal.loop-i-preserved
-loop-i-preserved c = let s = c.loop-i.invariant.2 in
+pub returns-in_err-try_push-3 : goal.returns-in_err-try_push-3
+unfolding split_at
+returns-in_err-try_push-3 c =
+    let s = c.loop-w.invariant.so_far.count_is in
+    let more = pass_whole _ c.loop-w.invariant (split_outside _ _ (sym c.inside.ensures ∙ c.if-inside.false)) c.loop-w-test.true in
+    MatchResult-from_err _ _ _ c.from_residual-in_err-try_push-3.ensures.0 (λ _. omega (arith, c.in_err-try_push-3.ensures.0))
+
+pub loop-w-preserved : goal.loop-w-preserved
+loop-w-preserved c =
+    let s = c.loop-w.invariant in
     elim c.if-inside.branch [
-      | then-inside+else-k-ge511 w ↦
+      | then-inside+in_ok-try_push+in_ok-try_push-2 w ↦
           let e = split_inside _ _ (sym c.inside.ensures ∙ w.if-inside.true) in
-          (omega arith, omega arith, rw (w.out-is, w.left-a.ensures, w.right-b.ensures) (pass_next _ s e (holds_push_two _ _ s.so_far (omega arith)) (omega arith)))
-      | else-inside+else-k-ge512 w ↦
+          rw w.out-is (pass_next _ s e (pushed_two s.so_far w.left.ensures w.right.ensures w.in_ok-try_push.ensures w.in_ok-try_push-2.ensures) c.loop-w-test.true)
+      | else-inside+in_ok-try_push-3 w ↦
           let e = split_outside _ _ (sym c.inside.ensures ∙ w.if-inside.false) in
-          (omega arith, omega arith, rw w.out-is (pass_next _ s e (holds_push _ s.so_far (omega arith)) (omega arith)))
+          rw w.out-is (pass_next _ s e (pushed_holds _ s.so_far w.in_ok-try_push-3.ensures.0 w.in_ok-try_push-3.ensures.1) c.loop-w-test.true)
     ]
 
 pub returns : goal.returns
 unfolding split_at
-returns c = grows_room _ refl (pass_end c.args.ws.count c.loop-i.invariant.2 (omega arith))
+returns c = pass_all c.loop-w.invariant c.loop-w-test.false
