@@ -1,4 +1,4 @@
 pub mod Fitting
 pub mod Listing
-pub mod Meeting
 pub mod Inserting
+pub mod Touching

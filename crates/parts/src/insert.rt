@@ -1,5 +1,6 @@
 // A component put into a table in row order.
 ghost use Rattle.std.specs.Prelude.{◌≡◌, ◌<◌};
+ghost use Rattle.std.specs.List.{position};
 ghost use Rattle.lists.specs.Lists.{insert};
 ghost use Rattle.sheet.specs.Parts;
 ghost use Rattle.sheet.specs.Drawings.{component_rows};
@@ -8,10 +9,18 @@ ghost use Rattle.parts.specs.Tables.{TabledParts};
 use sheet::{Component, Components};
 
 // Row order: by y, then by x.
+#[tactic(auto, unfolding(sheet::specs::Points::rises))]
 fn ahead(b: Component, c: Component) -> bool
     ensures { result ≡ Parts.ahead b c }
 {
     (b.y < c.y) | ((b.y == c.y) & (b.x < c.x))
+}
+
+// The first row that c goes before.
+fn row_after(cs: &[Component], c: Component) -> Option<usize>
+    ensures { result ≡ position (Parts.ahead c) cs.now }
+{
+    cs.iter().position(|d| ahead(c, *d))
 }
 
 // The component put in, in row order: from its place on each row goes one place on.
@@ -20,20 +29,14 @@ pub fn insert_part(cs: Components, c: Component) -> Components
     ensures { TabledParts (insert Parts.ahead c (component_rows cs)) result }
 {
     let n = cs.count;
+    let from = row_after(cs.in_use(), c).unwrap_or(n);
     let mut out = cs;
     let mut carried = c;
-    let mut moving = false;
-    let mut i = 0;
-    while i < n {
-        let b = out.rows[i];
-        if moving | ahead(carried, b) {
-            out.rows[i] = carried;
-            carried = b;
-            moving = true;
-        }
-        i += 1;
+    for i in from..n {
+        let next = out.rows[i];
+        out.rows[i] = carried;
+        carried = next;
     }
-    out.rows[n] = carried;
-    out.count = n + 1;
+    out.push(carried);
     out
 }

@@ -1,4 +1,4 @@
-// Tables of components by value: each function does to the rows in use what its definition says of lists.
+// Components in row order: each function does to rows what its definition says of lists.
 #![tactic(auto)]
 
 pub mod insert;
@@ -7,28 +7,12 @@ pub mod square;
 pub mod touch;
 pub mod turn;
 
-ghost use Rattle.std.specs.Prelude.{◌≡◌, []};
+ghost use Rattle.std.specs.Prelude.{◌≡◌};
+ghost use Rattle.symbol.specs.Symbols.{touches_of};
 ghost use Rattle.sheet.specs.Parts;
-ghost use Rattle.parts.specs.Tables.{TabledParts, met};
 
-use orientation::can_turn;
-use sheet::{Component, Components};
+use sheet::Component;
 use symbol::{Bounds, bounds_at, touches};
-
-// The empty table: all its rows are zero, their orientations too (zero_row_turned).
-pub fn no_parts() -> Components
-    ensures { TabledParts [] result }
-{
-    let zero = Component {
-        kind: 0,
-        orientation: 0,
-        x: 0,
-        y: 0,
-        label: [0u8; 16],
-    };
-    let rows = [zero; 128];
-    Components { rows, count: 0 }
-}
 
 // The component's box.
 pub fn box_of(c: Component) -> Bounds
@@ -38,10 +22,10 @@ pub fn box_of(c: Component) -> Bounds
     bounds_at(c.kind, c.orientation, c.x, c.y)
 }
 
-// The box meets the component, of every kind or a contact.
-pub(crate) fn meets(b: Bounds, every: bool, c: Component) -> bool
+// The box meets the component.
+pub(crate) fn meets(b: Bounds, c: Component) -> bool
     requires { Parts.PartFits c }
-    ensures { result ≡ met b every c }
+    ensures { result ≡ touches_of b (Parts.box c) }
 {
-    (every | can_turn(c.kind)) & touches(b, box_of(c))
+    touches(b, box_of(c))
 }

@@ -2,12 +2,11 @@
 ghost use Rattle.std.specs.Prelude.{◌≡◌, ◌≤◌, length};
 ghost use Rattle.symbol.specs.Symbols.{pads_at};
 ghost use Rattle.sheet.specs.Parts;
-ghost use Rattle.sheet.specs.Drawings.{component_rows};
-ghost use Rattle.parts.specs.Tables.{PartsFit, Block, TabledPoints};
+ghost use Rattle.parts.specs.Tables.{EachFits, Block, TabledPoints};
 
-use sheet::{Component, Components};
+use sheet::Component;
 use symbol::{PadBlock, Point, pads_at};
-use wires::Points;
+use wires::{Points, ZERO_POINT};
 
 // The component's pads, in symbol order.
 pub fn pads_of(c: Component) -> PadBlock
@@ -18,26 +17,14 @@ pub fn pads_of(c: Component) -> PadBlock
 }
 
 // The pads of all components, in row order.
-pub fn all_pads(cs: Components) -> Points
-    requires { PartsFit cs }
-    ensures { TabledPoints (Parts.pads_of (component_rows cs)) result }
+pub fn all_pads(cs: &[Component]) -> Points
+    requires { EachFits cs.now × (length cs.now ≤ 128) }
+    ensures { TabledPoints (Parts.pads_of cs.now) result }
 {
-    let zero = Point { x: 0, y: 0 };
-    let rows = [zero; 384];
-    let mut out = Points { rows, count: 0 };
-    let n = cs.count;
-    let mut i = 0;
-    while i < n {
-        let c = cs.rows[i];
-        let b = pads_of(c);
-        let ps = b.points;
-        let m = b.count;
-        let k = out.count;
-        out.rows[k] = ps[0];
-        out.rows[k + 1] = ps[1];
-        out.rows[k + 2] = ps[2];
-        out.count = k + m;
-        i += 1;
+    let mut out = Points::empty(ZERO_POINT);
+    for c in cs {
+        let b = pads_of(*c);
+        out.extend(&b.points[..b.count]);
     }
     out
 }
@@ -51,17 +38,13 @@ pub fn pads_of_kind(kind: u8) -> usize
 }
 
 // How many pads the components have.
-pub fn count_pads(cs: Components) -> usize
-    requires { cs.count ≤ 128 }
-    ensures { result ≡ length (Parts.pads_of (component_rows cs)) }
+pub fn count_pads(cs: &[Component]) -> usize
+    requires { length cs.now ≤ 128 }
+    ensures { result ≡ length (Parts.pads_of cs.now) }
 {
-    let n = cs.count;
     let mut sum = 0;
-    let mut i = 0;
-    while i < n {
-        let c = cs.rows[i];
+    for c in cs {
         sum += pads_of_kind(c.kind);
-        i += 1;
     }
     sum
 }

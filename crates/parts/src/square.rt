@@ -1,59 +1,65 @@
 // Components that the square about the pointer meets.
-ghost use Rattle.std.specs.Prelude.{◌≡◌, not, ◌≤◌};
-ghost use Rattle.std.specs.Bool.{beq};
+ghost use Rattle.std.specs.Prelude.{◌≡◌, not, ◌&&◌, Bool, ◌≤◌, length};
 ghost use Rattle.std.specs.List.{filter};
+ghost use Rattle.lists.specs.Lists.{◌∈◌};
+ghost use Rattle.symbol.specs.Symbols.{touches_of};
+ghost use Rattle.sheet.specs.declared.Component.{Component};
 ghost use Rattle.sheet.specs.Edits;
-ghost use Rattle.sheet.specs.Drawings.{component_rows};
-ghost use Rattle.parts.specs.Tables.{PartsFit, TabledParts, met};
+ghost use Rattle.sheet.specs.Parts;
+ghost use Rattle.parts.specs.Tables.{EachFits, TabledParts};
 
-use crate::{meets, no_parts};
-use sheet::Components;
+use crate::meets;
+use orientation::can_turn;
+use sheet::{Component, Components, ZERO_COMPONENT};
 use symbol::{Bounds, Point};
 use wires::square::square;
 
-// The components that the box meets, or those that it does not, in order.
-fn keep_met(cs: Components, b: Bounds, every: bool, hit: bool) -> Components
-    requires { PartsFit cs }
-    ensures { TabledParts (filter (λ c. beq (met b every c) hit) (component_rows cs)) result }
+// The components that pass the test, in order.
+fn keep<F: Fn(Component) -> bool>(cs: &[Component], test: F) -> Components
+    requires small { length cs.now ≤ 128 }
+    requires callable { (c : Component) → c ∈ cs.now → F.pre test c }
+    ensures { (g : Component → Bool) → ((c : Component) (r : Bool) → c ∈ cs.now → F.post test c r → r ≡ g c) → TabledParts (filter g cs.now) result }
 {
-    let n = cs.count;
-    let mut out = no_parts();
-    let mut i = 0;
-    while i < n {
-        let c = cs.rows[i];
-        if meets(b, every, c) == hit {
-            let k = out.count;
-            out.rows[k] = c;
-            out.count = k + 1;
+    let mut out = Components::empty(ZERO_COMPONENT);
+    for c in cs {
+        if test(*c) {
+            out.push(*c);
         }
-        i += 1;
     }
     out
 }
 
+// A contact that the box meets.
+fn is_hit(b: Bounds, c: Component) -> bool
+    requires { Parts.PartFits c }
+    ensures { result ≡ (Parts.is_contact c && touches_of b (Parts.box c)) }
+{
+    can_turn(c.kind) & meets(b, c)
+}
+
 // The components that the square does not meet.
-pub fn keep_unmet(cs: Components, p: Point, size: u16) -> Components
-    requires { PartsFit cs × ((p.x ≤ 12000) × ((p.y ≤ 12000) × (size ≤ 1000))) }
-    ensures { TabledParts (filter (λ c. not (Edits.meets_part p size c)) (component_rows cs)) result }
+pub fn keep_unmet(cs: &[Component], p: Point, size: u16) -> Components
+    requires { EachFits cs.now × ((length cs.now ≤ 128) × ((p.x ≤ 12000) × ((p.y ≤ 12000) × (size ≤ 1000)))) }
+    ensures { TabledParts (filter (λ c. not (Edits.meets_part p size c)) cs.now) result }
 {
     let b = square(p, size);
-    keep_met(cs, b, true, false)
+    keep(cs, |c| !meets(b, c))
 }
 
 // All components but the contacts that the square meets.
-pub fn keep_unhit(cs: Components, p: Point, size: u16) -> Components
-    requires { PartsFit cs × ((p.x ≤ 12000) × ((p.y ≤ 12000) × (size ≤ 1000))) }
-    ensures { TabledParts (filter (λ c. not (Edits.hits p size c)) (component_rows cs)) result }
+pub fn keep_unhit(cs: &[Component], p: Point, size: u16) -> Components
+    requires { EachFits cs.now × ((length cs.now ≤ 128) × ((p.x ≤ 12000) × ((p.y ≤ 12000) × (size ≤ 1000)))) }
+    ensures { TabledParts (filter (λ c. not (Edits.hits p size c)) cs.now) result }
 {
     let b = square(p, size);
-    keep_met(cs, b, false, false)
+    keep(cs, |c| !is_hit(b, c))
 }
 
 // The contacts that the square meets.
-pub fn hit_contacts(cs: Components, p: Point, size: u16) -> Components
-    requires { PartsFit cs × ((p.x ≤ 12000) × ((p.y ≤ 12000) × (size ≤ 1000))) }
-    ensures { TabledParts (filter (Edits.hits p size) (component_rows cs)) result }
+pub fn hit_contacts(cs: &[Component], p: Point, size: u16) -> Components
+    requires { EachFits cs.now × ((length cs.now ≤ 128) × ((p.x ≤ 12000) × ((p.y ≤ 12000) × (size ≤ 1000)))) }
+    ensures { TabledParts (filter (Edits.hits p size) cs.now) result }
 {
     let b = square(p, size);
-    keep_met(cs, b, false, true)
+    keep(cs, |c| is_hit(b, c))
 }

@@ -9,13 +9,9 @@ use sheet::Component;
 fn reoriented(c: Component, n: u8) -> Component
     ensures { result ≡ Parts.reoriented (λ _. n) c }
 {
-    let label = c.label;
     Component {
-        kind: c.kind,
         orientation: n,
-        x: c.x,
-        y: c.y,
-        label,
+        ..c
     }
 }
 

@@ -1,8 +1,8 @@
 // Tables in fixed memory: N rows, of which the first are in use.
 #![tactic(auto)]
 
-ghost use Rattle.std.specs.Prelude.{◌≡◌, ◌≤◌, ◌<◌, [], MatchResult};
-ghost use Rattle.table.specs.Tables.{rows_of, table_of, pushed};
+ghost use Rattle.std.specs.Prelude.{◌≡◌, ◌+◌, ◌≤◌, ◌<◌, [], length, MatchResult};
+ghost use Rattle.table.specs.Tables.{rows_of, table_of, pushed, Extends};
 
 // Any count may stand beside the rows: the drawing check judges tables with too great a one.
 #[derive(Clone, Copy)]
@@ -56,5 +56,15 @@ impl<T: Copy, const N: usize> Table<T, N> {
         }
         self.push(row);
         Ok(())
+    }
+
+    // The rows behind those in use, where there is room.
+    pub fn extend(&mut self, rows: &[T])
+        requires { self.old.count + length rows.now ≤ N }
+        ensures { Extends rows.now self.old self.new }
+    {
+        for row in rows {
+            self.push(*row);
+        }
     }
 }

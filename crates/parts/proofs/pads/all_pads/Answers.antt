@@ -1,24 +1,28 @@
--- A pass: after i components the table lists their pads, a block behind a block.
-use native.Mathlib.Omega.{arith}
-use mathlib.Core.Path.{refl}
-use Rattle.lists.proofs.Tables.{long}
-use Rattle.lists.proofs.Passes.{pass_start, pass_next, pass_end}
+-- A pass: the table holds the pads of the components passed, a block behind a block.
+use Rattle.std.proofs.Common.{arith, sym}
+use lib.ListN.{length-take}
+use Rattle.lists.proofs.Finding.{get_in}
+use Rattle.lists.proofs.Passes.{pass_start, pass_next}
 use Rattle.symbol.specs.Symbols.{unused}
-use Rattle.parts.proofs.Fitting.{row_fits}
-use Rattle.parts.proofs.Listing.{lists_none, lists_block}
+use Rattle.table.proofs.Rows.{empty_holds}
+use Rattle.table.proofs.Passing.{pass_all}
+use Rattle.parts.proofs.Listing.{holds_points}
 use Rattle.parts.proofs.pads.all_pads.Goals as goal
 
-pub loop-i-init : goal.loop-i-init
-loop-i-init c = (omega arith, search long, omega arith, pass_start _ _ lists_none)
+pub loop-c-init : goal.loop-c-init
+loop-c-init c = let z = empty_holds c.empty-out.ensures in (omega (arith, z.count_is), pass_start _ _ z)
 
 pub pads_of-b-requires : goal.pads_of-b-requires
-pads_of-b-requires c = row_fits _ c.requires c.loop-i.invariant.1 c.loop-i-test.true
+pads_of-b-requires c = c.requires.0 _ (get_in _ _ _ c.loop-c-test.true)
 
-pub loop-i-preserved : goal.loop-i-preserved
-loop-i-preserved c =
-    let s = c.loop-i in
+pub extend-requires : goal.extend-requires
+extend-requires c = (omega arith, omega (arith, c.pads_of-b.ensures.room, length-take c.pads_of-b.result.count c.pads_of-b.result.points))
+
+pub loop-c-preserved : goal.loop-c-preserved
+loop-c-preserved c =
+    let s = c.loop-c.invariant.1 in
     let b = c.pads_of-b.ensures in
-    (omega arith, omega arith, omega (arith, b.room), pass_next _ s.invariant.3 refl (lists_block unused s.invariant.3.so_far b (omega arith)) (omega arith))
+    (omega (arith, c.extend.ensures.count_is, b.room, length-take c.pads_of-b.result.count c.pads_of-b.result.points), pass_next _ s (sym b.points_are) (c.extend.ensures.so unused _ s.so_far) c.loop-c-test.true)
 
 pub returns : goal.returns
-returns c = pass_end c.args.cs.count c.loop-i.invariant.3 (omega arith)
+returns c = holds_points (pass_all c.loop-c.invariant.1 c.loop-c-test.false)

@@ -1,14 +1,10 @@
--- A pass: after i components the table lists their pads, a block behind a block.
-use Prim.Native.Nat.{◌≤◌, ◌-◌, ◌*◌}
-use mathlib.Core.Path.{◌≡◌}
-use lib.ListN.{length}
+-- A pass: the table holds the pads of the components passed, a block behind a block.
+use Rattle.std.proofs.Common.{◌≤◌, ◌*◌}
+use Rattle.lists.specs.Tables.{Holds}
 use Rattle.lists.proofs.Passes.{Pass}
+use Rattle.symbol.specs.Symbols.{unused}
 use Rattle.sheet.specs.Parts.{pads}
-use Rattle.parts.specs.Tables.{TabledPoints}
 use Rattle.parts.proofs.pads.all_pads.Given as goal
 
-abbrev pub invariant-loop-i : goal.invariant-loop-i
-invariant-loop-i l = (l.i ≤ l.n) × (length l.cs.rows ≡ 128) × (l.out.count ≤ 3 * l.i) × Pass TabledPoints pads l.cs.rows l.i l.out
-
-abbrev pub decreases-loop-i : goal.decreases-loop-i
-decreases-loop-i l = l.n - l.i
+abbrev pub invariant-loop-c : goal.invariant-loop-c
+invariant-loop-c l = (l.out.count ≤ 3 * l.c-index) × Pass (λ ps t. Holds 384 unused ps t.rows t.count) pads l.cs l.c-index l.out

@@ -1,18 +1,17 @@
--- A pass: after i components the sum is the number of their pads.
-use native.Mathlib.Omega.{arith}
-use mathlib.Core.Path.{refl}
-use Rattle.lists.proofs.Tables.{long}
-use Rattle.lists.proofs.Passes.{pass_start, pass_next, pass_end}
+-- A pass: the sum is the number of the pads of the components passed.
+use Rattle.std.proofs.Common.{arith, refl}
+use Rattle.lists.proofs.Passes.{pass_start, pass_next}
+use Rattle.table.proofs.Passing.{pass_all}
 use Rattle.parts.proofs.Listing.{many_none, many_more}
 use Rattle.parts.proofs.pads.count_pads.Goals as goal
 
-pub loop-i-init : goal.loop-i-init
-loop-i-init c = (omega arith, search long, omega arith, pass_start _ _ many_none)
+pub loop-c-init : goal.loop-c-init
+loop-c-init c = (omega arith, pass_start _ _ many_none)
 
-pub loop-i-preserved : goal.loop-i-preserved
-loop-i-preserved c =
-    let s = c.loop-i.invariant.3 in
-    (omega arith, omega arith, omega arith, pass_next _ s refl (many_more _ s.so_far c.pads_of_kind-sum.ensures.0) (omega arith))
+pub loop-c-preserved : goal.loop-c-preserved
+loop-c-preserved c =
+    let s = c.loop-c.invariant.1 in
+    (omega arith, pass_next _ s refl (many_more _ s.so_far c.pads_of_kind-sum.ensures.0) c.loop-c-test.true)
 
 pub returns : goal.returns
-returns c = (pass_end c.args.cs.count c.loop-i.invariant.3 (omega arith)).count_is
+returns c = (pass_all c.loop-c.invariant.1 c.loop-c-test.false).count_is
