@@ -7,16 +7,13 @@ use lib.ListN.{length}
 use borrow.Author.Tests.{le-leb, lt-leb}
 use Rattle.lists.proofs.Tests.{Reads, pass, fail, choose, eqb_reads, leb_reads}
 use Rattle.symbol.specs.Replies.{or_else, unless, granted}
-use Rattle.sheet.specs.Tables.{Components}
+use Rattle.sheet.specs.Tables.{Wires, Components}
 use Rattle.sheet.specs.Drawings.{Sheet}
 use Rattle.sheet.proofs.Wiring.{Roomy}
 use Rattle.sheet.specs.Edits.{Outcome}
-use Rattle.wires.specs.declared.Grown.{Grown}
-use Rattle.wires.specs.Tables.{Grows}
-use Rattle.wires.proofs.Growing.{when_room, when_full}
+use Rattle.wires.specs.Tables.{Tabled}
 use Rattle.parts.specs.Tables.{TabledParts}
-use Rattle.edits.specs.declared.Made.{Made}
-use Rattle.edits.specs.Making.{room_reply, tables, no_room, made}
+use Rattle.edits.specs.Making.{Made, room_reply, tables, no_room, made}
 
 -- the reply, with what it says of the sheet
 pub data Room (s : Sheet) : ℕ → Type 0 where
@@ -59,16 +56,11 @@ made_reply o = choose (eqb_reads (room_reply o.sheet) 0) (λ (x : Made). x.reply
 pub full_parts : (o : Outcome) → 128 < length o.sheet.parts → no_room 7 ≡ made o
 full_parts o h = sym (made_by o (parts_over h))
 
-pub full_wires : (o : Outcome) {g : Grown} → Grows o.sheet.wires g → g.full ≡ true → length o.sheet.parts ≤ 128 → no_room 11 ≡ made o
-full_wires o w e h = let k = (when_full w e).1 in sym (made_by o (wires_over h (omega arith)))
+pub full_wires : (o : Outcome) → 512 < length o.sheet.wires → length o.sheet.parts ≤ 128 → no_room 11 ≡ made o
+full_wires o k h = sym (made_by o (wires_over h k))
 
--- wires that may have no room, and components that have
-module _ (o : Outcome) {g : Grown} {cs : Components} (w : Grows o.sheet.wires g) (p : TabledParts o.sheet.parts cs) where
-  pub answer_full : g.full ≡ true → no_room 11 ≡ made o
-  answer_full e = full_wires o w e p.room
-
-  pub answer_room : {h l : ℕ} → g.full ≡ false → h ≡ o.hit → l ≡ o.lost → ◌≡◌ {A = Made} (record { reply = 0; wires = g.table; parts = cs; hit = h; lost = l }) (made o)
-  answer_room e f k =
-      let t = when_room w e in
-      (λ i. record { reply = 0; wires = record { rows = t.rows_are i; count = t.count_is i }; parts = record { rows = p.rows_are i; count = p.count_is i }; hit = f i; lost = k i })
-      ∙ sym (made_by o (enough (record { wires = t.room; parts = p.room })))
+-- wires that have room, and components that have
+pub answer_room : (o : Outcome) {ws : Wires} {cs : Components} {h l : ℕ} → Tabled o.sheet.wires ws → TabledParts o.sheet.parts cs → h ≡ o.hit → l ≡ o.lost → ◌≡◌ {A = Made} (record { reply = 0; wires = ws; parts = cs; hit = h; lost = l }) (made o)
+answer_room o t p f k =
+    (λ i. record { reply = 0; wires = record { rows = t.rows_are i; count = t.count_is i }; parts = record { rows = p.rows_are i; count = p.count_is i }; hit = f i; lost = k i })
+    ∙ sym (made_by o (enough (record { wires = t.room; parts = p.room })))

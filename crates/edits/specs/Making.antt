@@ -1,12 +1,23 @@
 -- Below the calls, but for `room_reply` and `quiet`: what an edit of a sheet makes of its tables.
-use Rattle.std.specs.Prelude.{ℕ, ◌≤◌, Bool, cond, List, [], leb, length}
+use Rattle.std.specs.Prelude.{ℕ, ◌≤◌, List, [], leb, length}
 use Rattle.symbol.specs.declared.Point.{Point}
 use Rattle.symbol.specs.Replies.{or_else, unless, granted}
 use Rattle.sheet.specs.declared.Component.{Component}
-use Rattle.sheet.specs.Parts.{turned_right, mirrored}
 use Rattle.sheet.specs.Drawings.{Sheet, wire_table, component_table}
 use Rattle.sheet.specs.Edits.{Outcome, place_all}
-use Rattle.edits.specs.declared.Made.{Made}
+use Rattle.std.specs.Prelude.{Result}
+use Rattle.refusal.specs.declared.Refusal.{Refusal}
+use Rattle.refusal.specs.Numbers.{answered}
+use Rattle.sheet.specs.Tables.{Wires, Components}
+use Rattle.edits.specs.declared.Made.{Made as Tables}
+
+-- what an edit makes: the reply, and after reply 0 the new tables, and how many contacts were hit and lost
+pub record Made : Type 0 where
+  pub reply : ℕ
+  pub wires : Wires
+  pub parts : Components
+  pub hit : ℕ
+  pub lost : ℕ
 
 -- "Reply 7 is to mean components only"; "11, more than 512 wires after the edit, straight after 7; where both apply, 7." (document 02, P4);
 -- 0 where the drawing after the edit has room for both
@@ -25,13 +36,13 @@ tables o = record { reply = 0; wires = wire_table o.sheet.wires; parts = compone
 abbrev pub no_room : ℕ → Made
 no_room n = record { reply = n; wires = wire_table []; parts = component_table []; hit = 0; lost = 0 }
 
+-- "For an answer that is an enum, a definition provides this paper's number and values for each of the enum's cases."
+abbrev pub told : Result Tables Refusal → Made
+told r = answered (λ t. record { reply = 0; wires = t.wires; parts = t.parts; hit = t.hit; lost = t.lost }) no_room r
+
 -- what the edit makes, if there is room
 unfoldable pub made : Outcome → Made
 made o = granted (room_reply o.sheet) no_room (tables o)
-
--- turned right, or mirrored
-abbrev pub altered : Bool → Component → Component
-altered right c = cond right (turned_right c) (mirrored c)
 
 -- each placed in turn, as after a hit
 abbrev pub placed_again : List Component → Sheet → Outcome

@@ -4,7 +4,9 @@ use native.Mathlib.Omega.{arith}
 use mathlib.Core.Bool.{Bool, true, false, cond}
 use mathlib.Core.List.{List, [], ◌∷◌, ◌++◌, map, map-append, append_assoc, append-nil}
 use mathlib.Core.Path.{◌≡◌, refl, sym, ap, ap₂, subst, ◌∙◌}
-use lib.ListN.{length, take, get_or, set, length-set, length-take, length-append}
+use lib.ListN.{length, take, get_or, set, length-set, length-take, length-append, length-replicate}
+use Rattle.lists.specs.Tables.{pad}
+use Rattle.table.specs.Tables
 use lib.Seq.{get_or-take}
 use Rattle.std.specs.List.{filter}
 use Rattle.lists.proofs.Pushes.{take_push}
@@ -44,29 +46,18 @@ keyed_push {ps} {t} {p} k h e b = record {
   points = ap (map spot) (take_push t.rows t.count k (omega (arith, h.size))) ∙ map-append spot (key_rows t) (k ∷ []) ∙ ap₂ (λ qs q. qs ++ (q ∷ [])) h.points e;
 }
 
+pub keyed_more : {ps : List Point} {t r : Keys} {p : Point} (k : ℕ) → Keyed ps t → spot k ≡ p → t.count < 1408 → r ≡ Tables.pushed k t → Keyed (ps ++ (p ∷ [])) r
+keyed_more {ps} {t} {r} {p} k h e b q = subst (Keyed (ps ++ (p ∷ []))) (sym q) (keyed_push k h e b)
+
+pub keyed_none : {t : Keys} → t ≡ Tables.table_of 1408 0 [] → Keyed [] t
+unfolding pad
+keyed_none e = subst (Keyed []) (sym e) (record { size = length-replicate {A = ℕ} 1408 0; count_is = refl; points = refl })
+
 -- and two keys more
-pub keyed_push_two : {ps : List Point} {t : Keys} {p q : Point} (k l : ℕ) → Keyed ps t → spot k ≡ p → spot l ≡ q → t.count + 1 < 1408
-    → Keyed (ps ++ (p ∷ q ∷ [])) (record { rows = set (set t.rows t.count k) (t.count + 1) l; count = t.count + 2 })
-keyed_push_two {ps} {t} {p} {q} k l h e f b =
-    let two : t.count + 1 + 1 ≡ t.count + 2 = omega arith in
-    subst (λ c. Keyed (ps ++ (p ∷ q ∷ [])) (record { rows = set (set t.rows t.count k) (t.count + 1) l; count = c })) two
-    (subst (λ qs. Keyed qs (pushed (pushed t k) l)) (append_assoc ps (p ∷ []) (q ∷ [])) (keyed_push l (keyed_push k h e (omega arith)) f b))
-
--- ---- the first i points of a list, behind those of a table
-
-pub record KeyedTo (base : Keys) (l : List Point) (i : ℕ) (t : Keys) : Type 0 where
-  pub so_far : Keyed (map spot (key_rows base) ++ take i l) t
-
-pub keyed_start : {ps : List Point} {t : Keys} (l : List Point) → Keyed ps t → KeyedTo t l 0 t
-keyed_start {ps} {t} l h = record { so_far = subst (λ qs. Keyed qs t) (sym (append-nil (map spot (key_rows t)) ∙ h.points)) h }
-
-pub keyed_next : {base t : Keys} {l : List Point} {i : ℕ} (k : ℕ) (d : Point) → KeyedTo base l i t → spot k ≡ get_or l i d → i < length l → t.count < 1408 → KeyedTo base l (i + 1) (pushed t k)
-keyed_next {base} {t} {l} {i} k d h e a b =
-    let ps : List Point = map spot (key_rows base) in
-    record { so_far = subst (λ qs. Keyed qs (pushed t k)) (append_assoc ps (take i l) (get_or l i d ∷ []) ∙ ap (λ qs. ps ++ qs) (sym (take_more l i d a))) (keyed_push k h.so_far e b) }
-
-pub keyed_end : {base t : Keys} {ps l : List Point} {i : ℕ} (n : ℕ) → Keyed ps base → KeyedTo base l i t → i ≡ n → Keyed (ps ++ take n l) t
-keyed_end {t = t} {l = l} n b h e = subst (λ qs. Keyed qs t) (λ j. b.points j ++ take (e j) l) h.so_far
+pub keyed_two : {ps : List Point} {t r q : Keys} {a b : Point} (k l : ℕ) → Keyed ps t → spot k ≡ a → spot l ≡ b → t.count + 1 < 1408 → r ≡ Tables.pushed k t → q ≡ Tables.pushed l r → Keyed (ps ++ (a ∷ b ∷ [])) q
+keyed_two {ps} {q = q} {a} {b} k l h e f c x y =
+    let one = keyed_more k h e (omega arith) x in
+    subst (λ qs. Keyed qs q) (append_assoc ps (a ∷ []) (b ∷ [])) (keyed_more l one f (omega (arith, one.count_is, h.count_is, length-append ps (a ∷ []))) y)
 
 -- ---- how many there are
 

@@ -1,26 +1,11 @@
 // Rising keys gathered into joint rows.
-ghost use Rattle.std.specs.Prelude.{◌≡◌, [], map, ◌≤◌};
+ghost use Rattle.std.specs.Prelude.{◌≡◌, map, ◌≤◌, length};
 ghost use Rattle.lists.specs.Lists.{Rows};
-ghost use Rattle.lists.specs.Tables.{Holds};
 ghost use Rattle.sheet.specs.Joints.{joint_at, joints_of};
-ghost use Rattle.sheet.specs.Drawings.{zero_joint, joint_table};
+ghost use Rattle.sheet.specs.Drawings.{joint_table};
 ghost use Rattle.joints.specs.Keys.{spot};
-ghost use Rattle.joints.specs.Sorting.{key_rows};
 
-use crate::sort::Keys;
-use sheet::{Joint, Joints};
-
-fn no_joints() -> Joints
-    ensures { Holds 1408 zero_joint [] result.rows result.count }
-{
-    let zero = Joint {
-        x: 0,
-        y: 0,
-        count: 0,
-    };
-    let rows = [zero; 1408];
-    Joints { rows, count: 0 }
-}
+use sheet::{Joint, Joints, ZERO_JOINT};
 
 // The joint at the point of a key.
 fn joint_at(k: u32, count: u16) -> Joint
@@ -34,33 +19,26 @@ fn joint_at(k: u32, count: u16) -> Joint
 }
 
 // A row for each point, with the number of its keys.
-pub(crate) fn gathered(ks: Keys) -> Joints
-    requires { (ks.count ≤ 1408) × Rows ◌≤◌ (key_rows ks) }
-    ensures { result ≡ joint_table (joints_of (map spot (key_rows ks))) }
+pub(crate) fn gathered(ks: &[u32]) -> Joints
+    requires { (length ks.now ≤ 1408) × Rows ◌≤◌ ks.now }
+    ensures { result ≡ joint_table (joints_of (map spot ks.now)) }
 {
-    let n = ks.count;
-    let mut out = no_joints();
-    if n == 0 {
+    let mut out = Joints::empty(ZERO_JOINT);
+    if ks.len() == 0 {
         return out;
     }
-    let mut last = ks.rows[0];
+    let mut last = ks[0];
     let mut count: u16 = 1;
-    let mut i = 1;
-    while i < n {
-        let k = ks.rows[i];
+    for i in 1..ks.len() {
+        let k = ks[i];
         if k == last {
             count += 1;
         } else {
-            let m = out.count;
-            out.rows[m] = joint_at(last, count);
-            out.count = m + 1;
+            out.push(joint_at(last, count));
             last = k;
             count = 1;
         }
-        i += 1;
     }
-    let m = out.count;
-    out.rows[m] = joint_at(last, count);
-    out.count = m + 1;
+    out.push(joint_at(last, count));
     out
 }

@@ -14,7 +14,7 @@ pub fn tally(d: Drawing) -> Tally
     let ws = d.wires;
     let js = d.joints;
     let cs = d.components;
-    let pads = count_pads(cs);
+    let pads = count_pads(cs.in_use());
     Tally {
         wires: ws.count as u32,
         joints: js.count as u32,

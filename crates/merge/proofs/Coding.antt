@@ -10,14 +10,17 @@ use mathlib.Core.List.{List, [], ◌∷◌, ◌++◌, map, append-nil, append_as
 use mathlib.Core.Logic.{⊎_elim}
 use mathlib.Core.Bool.{Bool, true, false, ◌&&◌, ◌||◌, not, beq, or-false}
 use lib.Dec.{eqb}
-use lib.ListN.{length, take, set}
+use lib.ListN.{length, length-replicate, length-set}
 use Rattle.symbol.specs.declared.Point.{Point}
 use Rattle.lists.specs.Lists.{◌∈◌}
 use Rattle.std.specs.List.{list_any, flat_map}
 use Rattle.lists.proofs.Tests.{reads_as, same_test, eqb_reads, and_reads}
 use Rattle.lists.proofs.Appends.{any_append}
 use Rattle.lists.proofs.Lists.{in_cons}
-use Rattle.lists.proofs.Pushes.{take_push, take_push_two}
+use Rattle.lists.proofs.Pushes.{take_push}
+use Rattle.lists.specs.Tables.{pad}
+use Rattle.lists.proofs.Tables.{length_snoc}
+use Rattle.table.specs.Tables.{table_of, pushed}
 use Rattle.lists.proofs.Somes.{any_as, any_never, any_gather, any_map}
 use Rattle.sheet.specs.declared.Wire.{Wire}
 use Rattle.sheet.specs.Points.{same}
@@ -47,12 +50,33 @@ coded_append {ms} {ns} a b = record { are = (λ i. a.are i ++ b.are i) ∙ sym (
 coded_more : {ms : List Mark} {cs : List ℕ} (a : Mark) {x : ℕ} → (x ≡ code_of a) × Codable a → Coded ms cs → Coded (a ∷ ms) (x ∷ cs)
 coded_more a s c = record { are = λ i. s.0 i ∷ c.are i; small = λ m k. in_cons Codable s.1 c.small k }
 
-module _ {ms : List Mark} (t : Numbers) (c : Coded ms (number_rows t)) where
-  pub coded_one : (a : Mark) {x : ℕ} → (x ≡ code_of a) × Codable a → t.count < length t.rows → Coded (ms ++ (a ∷ [])) (take (t.count + 1) (set t.rows t.count x))
-  coded_one a {x} s h = subst (Coded (ms ++ (a ∷ []))) (sym (take_push t.rows t.count x h)) (coded_append c (coded_more a s coded_none))
+-- one number more
+pub coded_push : {ms : List Mark} (t : Numbers) {r : Numbers} {x : ℕ} (a : Mark) → Coded ms (number_rows t) → (x ≡ code_of a) × Codable a → t.count < length t.rows → r ≡ pushed x t → Coded (ms ++ (a ∷ [])) (number_rows r)
+coded_push {ms} t {r} {x} a c s h e =
+    subst (λ (u : Numbers). Coded (ms ++ (a ∷ [])) (number_rows u)) (sym e) (subst (Coded (ms ++ (a ∷ []))) (sym (take_push t.rows t.count x h)) (coded_append c (coded_more a s coded_none)))
 
-  pub coded_two : (a b : Mark) {x y : ℕ} → (x ≡ code_of a) × Codable a → (y ≡ code_of b) × Codable b → t.count + 1 < length t.rows → Coded (ms ++ (a ∷ b ∷ [])) (take (t.count + 2) (set (set t.rows t.count x) (t.count + 1) y))
-  coded_two a b {x} {y} s u h = subst (Coded (ms ++ (a ∷ b ∷ []))) (sym (take_push_two t.rows t.count x y h)) (coded_append c (coded_more a s (coded_more b u coded_none)))
+-- t has 1,408 rows and its first are the numbers of the marks
+pub record Listed (ms : List Mark) (t : Numbers) : Type 0 where
+  pub size : length t.rows ≡ 1408
+  pub count_is : t.count ≡ length ms
+  pub coded : Coded ms (number_rows t)
+
+pub listed_none : {t : Numbers} → t ≡ table_of 1408 0 [] → Listed [] t
+unfolding pad
+listed_none e = subst (Listed []) (sym e) (record { size = length-replicate {A = ℕ} 1408 0; count_is = refl; coded = coded_none })
+
+pub listed_push : {ms : List Mark} {t r : Numbers} {x : ℕ} (a : Mark) → Listed ms t → (x ≡ code_of a) × Codable a → t.count < 1408 → r ≡ pushed x t → Listed (ms ++ (a ∷ [])) r
+listed_push {ms} {t} {r} {x} a l s h e = record {
+  size = ap (λ (u : Numbers). length u.rows) e ∙ length-set t.rows t.count x ∙ l.size;
+  count_is = ap (λ (u : Numbers). u.count) e ∙ omega (arith, l.count_is, length_snoc ms a);
+  coded = coded_push t a l.coded s (omega (arith, l.size)) e;
+}
+
+-- both ends of a wire
+pub listed_two : {ms : List Mark} {t r q : Numbers} {x y : ℕ} (a b : Mark) → Listed ms t → (x ≡ code_of a) × Codable a → (y ≡ code_of b) × Codable b → t.count + 1 < 1408 → r ≡ pushed x t → q ≡ pushed y r → Listed (ms ++ (a ∷ b ∷ [])) q
+listed_two {ms} {q = q} a b l s u h e f =
+    let one = listed_push a l s (omega arith) e in
+    subst (λ (m : List Mark). Listed m q) (append_assoc ms (a ∷ []) (b ∷ [])) (listed_push b one u (omega (arith, one.count_is, l.count_is, length_snoc ms a)) f)
 
 -- ---- a mark among others
 
@@ -113,23 +137,6 @@ held_marks ws ps d p = λ i. sym crossed i || sym padded i
     padded =
         any_append (is (mark 2 p)) (flat_map end_marks ws) (map (mark 2) ps)
         ∙ (λ i. (any_gather (is (mark 2 p)) end_marks ws ∙ any_never (no_end p) ws) i || any_map (is (mark 2 p)) (mark 2) ps i)
-
--- ---- numbers behind those of another table
-
-pub record Behind (t : Numbers) (ms : List Mark) (r : Numbers) : Type 0 where
-  pub so : (ns : List Mark) → Coded ns (number_rows t) → Coded (ns ++ ms) (number_rows r)
-
-pub behind_none : (t : Numbers) → Behind t [] t
-behind_none t = record { so = λ ns c. subst (λ (l : List Mark). Coded l (number_rows t)) (sym (append-nil ns)) c }
-
-pub behind_one : {t : Numbers} {ms : List Mark} (r : Numbers) → Behind t ms r → (a : Mark) {x : ℕ} → (x ≡ code_of a) × Codable a → r.count < length r.rows
-    → Behind t (ms ++ (a ∷ [])) (record { rows = set r.rows r.count x; count = r.count + 1 })
-behind_one {ms = ms} r b a {x} s h = record {
-  so = λ ns c. subst (λ (l : List Mark). Coded l (take (r.count + 1) (set r.rows r.count x))) (append_assoc ns ms (a ∷ [])) (coded_one r (b.so ns c) a s h);
-}
-
-pub behind_as : {t r : Numbers} {ms ns : List Mark} → ms ≡ ns → Behind t ms r → Behind t ns r
-behind_as {t} {r} e b = subst (λ (l : List Mark). Behind t l r) e b
 
 -- ---- both marks that can hold a wire at its high end, looked up
 

@@ -1,14 +1,11 @@
 // Wire ends and pads as numbers.
-ghost use Rattle.std.specs.Prelude.{◌≡◌, List, ◌++◌, map, ◌≤◌};
+ghost use Rattle.std.specs.Prelude.{◌≡◌, ◌≤◌, length};
 ghost use Rattle.std.specs.List.{flat_map};
-ghost use Rattle.sheet.specs.Drawings.{wire_rows};
-ghost use Rattle.wires.specs.Tables.{point_rows};
-ghost use Rattle.merge.specs.Codes.{Mark, kind_of, mark, end_marks, code_of, Codable, Coded, number_rows};
+ghost use Rattle.merge.specs.Codes.{kind_of, mark, end_marks, marks_with_kind, code_of, Codable, Coded, number_rows};
 
 use crate::Numbers;
-use sheet::Wires;
+use sheet::Wire;
 use symbol::Point;
-use wires::Points;
 use wires::geometry::{high_tip, low_tip};
 
 // 1 for the end of a vertical wire, 0 for that of a horizontal one.
@@ -27,45 +24,27 @@ pub fn code(kind: u64, p: Point) -> u64
 }
 
 // The numbers of all wire ends.
-pub fn end_codes(ws: Wires) -> Numbers
-    requires { ws.count ≤ 512 }
-    ensures { Coded (flat_map end_marks (wire_rows ws)) (number_rows result) × (result.count ≤ 1024) }
+fn end_codes(ws: &[Wire]) -> Numbers
+    requires { length ws.now ≤ 512 }
+    ensures { Coded (flat_map end_marks ws.now) (number_rows result) × (result.count ≤ 1024) }
 {
-    let n = ws.count;
-    let rows = [0u64; 1408];
-    let mut out = Numbers { rows, count: 0 };
-    let mut i = 0;
-    while i < n {
-        let w = ws.rows[i];
+    let mut out = Numbers::empty(0);
+    for w in ws {
         let kind = kind_of(w.vertical);
-        let low = low_tip(w);
-        let high = high_tip(w);
-        let a = code(kind, low);
-        let b = code(kind, high);
-        let k = out.count;
-        out.rows[k] = a;
-        out.rows[k + 1] = b;
-        out.count = k + 2;
-        i += 1;
+        out.push(code(kind, low_tip(*w)));
+        out.push(code(kind, high_tip(*w)));
     }
     out
 }
 
-// Behind them the numbers of all pads.
-pub fn pad_codes(ends: Numbers, pads: Points) -> Numbers
-    requires { (ends.count ≤ 1024) × (pads.count ≤ 384) }
-    ensures { ((ms : List Mark) → Coded ms (number_rows ends) → Coded (ms ++ map (mark 2) (point_rows pads)) (number_rows result)) × (result.count ≤ 1408) }
+// The numbers of all wire ends and pads.
+pub fn mark_codes(ws: &[Wire], pads: &[Point]) -> Numbers
+    requires { (length ws.now ≤ 512) × (length pads.now ≤ 384) }
+    ensures { Coded (marks_with_kind ws.now pads.now) (number_rows result) × (result.count ≤ 1408) }
 {
-    let n = pads.count;
-    let mut out = ends;
-    let mut i = 0;
-    while i < n {
-        let p = pads.rows[i];
-        let c = code(2, p);
-        let k = out.count;
-        out.rows[k] = c;
-        out.count = k + 1;
-        i += 1;
+    let mut out = end_codes(ws);
+    for p in pads {
+        out.push(code(2, *p));
     }
     out
 }

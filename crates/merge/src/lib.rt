@@ -4,20 +4,20 @@
 mod codes;
 mod held;
 
-ghost use Rattle.std.specs.Prelude.{◌≡◌, ◌≤◌};
+ghost use Rattle.std.specs.Prelude.{◌≡◌, ◌≤◌, length};
 ghost use Rattle.sheet.specs.Merge;
-ghost use Rattle.sheet.specs.Drawings.{wire_rows};
-ghost use Rattle.wires.specs.Tables.{point_rows, Tabled};
+ghost use Rattle.wires.specs.Tables.{Tabled};
 ghost use Rattle.merge.specs.Following.{goes_on};
 
-use sheet::{Wire, Wires};
-use wires::{Points, no_wires};
+use sheet::{Wire, Wires, ZERO_WIRE};
+use symbol::Point;
 use table::Table;
 
 // All wire ends and pads of a drawing, each as a number: twice 512 and three times 128 at most.
 pub type Numbers = Table<u64, 1408>;
 
 // b goes on in line where a ends.
+#[tactic(auto, unfolding(crate::specs::Following::goes_on))]
 pub fn goes_on(a: Wire, b: Wire) -> bool
     ensures { result ≡ goes_on a b }
 {
@@ -25,33 +25,26 @@ pub fn goes_on(a: Wire, b: Wire) -> bool
 }
 
 // Wires in line become one where nothing holds them apart, in one pass from the front: cur is the wire still growing.
-pub fn merge(ws: Wires, pads: Points) -> Wires
-    requires { (ws.count ≤ 512) × (pads.count ≤ 384) }
-    ensures { Tabled (Merge.merge (wire_rows ws) (point_rows pads)) result }
+pub fn merge(ws: &[Wire], pads: &[Point]) -> Wires
+    requires { (length ws.now ≤ 512) × (length pads.now ≤ 384) }
+    ensures { Tabled (Merge.merge ws.now pads.now) result }
 {
-    let n = ws.count;
-    let mut out = no_wires();
-    if n == 0 {
+    let mut out = Wires::empty(ZERO_WIRE);
+    if ws.len() == 0 {
         return out;
     }
     let held = held::held_ends(ws, pads);
-    let mut cur = ws.rows[0];
-    let mut i = 1;
-    while i < n {
-        let b = ws.rows[i];
-        let apart = held[i - 1];
-        if goes_on(cur, b) & !apart {
+    let mut cur = ws[0];
+    // By index: a wire is held apart by the flag of the row before it.
+    for i in 1..ws.len() {
+        let b = ws[i];
+        if goes_on(cur, b) & !held[i - 1] {
             cur.end = b.end;
         } else {
-            let k = out.count;
-            out.rows[k] = cur;
-            out.count = k + 1;
+            out.push(cur);
             cur = b;
         }
-        i += 1;
     }
-    let k = out.count;
-    out.rows[k] = cur;
-    out.count = k + 1;
+    out.push(cur);
     out
 }

@@ -1,14 +1,13 @@
 -- What is kept, merged.
-use mathlib.Core.Path.{refl}
-use Rattle.lists.proofs.Tables.{holds_count}
+use Rattle.std.proofs.Common.{refl}
 use Rattle.sheet.specs.Edits.{meets_wire, meets_part, delete}
-use Rattle.wires.proofs.Growing.{grows_room}
 use Rattle.joints.specs.Tables.{sheet_of}
-use Rattle.edits.proofs.Steps.{kept_fits, removed_wires, removed_parts}
+use Rattle.edits.proofs.Steps.{few_of, fits_of, removed_wires, removed_parts}
 use Rattle.edits.proofs.delete.delete.Goals as goal
 
 pub settled-wires-requires : goal.settled-wires-requires
-settled-wires-requires c = (holds_count c.keep_unhit-left.ensures, kept_fits _ c.requires.0.fits.each c.keep_unmet-parts.ensures)
+settled-wires-requires c =
+    (few_of c.keep_unhit-left.ensures c.in_use-3.ensures, (fits_of _ c.requires.0.fits.each (rw c.in_use-2.ensures at c.keep_unmet-parts.ensures) c.in_use-4.ensures, few_of c.keep_unmet-parts.ensures c.in_use-4.ensures))
 
 pub returns : goal.returns
 unfolding delete
@@ -16,5 +15,7 @@ returns c =
     let s = c.args in
     let f = meets_wire s.p s.size in
     let g = meets_part s.p s.size in
-    c.answer.ensures _ (grows_room _ refl (removed_wires f g (sheet_of s.ws s.cs) c.keep_unhit-left.ensures c.keep_unmet-parts.ensures c.settled-wires.ensures))
-    (removed_parts f g (sheet_of s.ws s.cs) c.keep_unhit-left.ensures c.keep_unmet-parts.ensures c.settled-wires.ensures) refl refl
+    let a = rw c.in_use.ensures at c.keep_unhit-left.ensures in
+    let b = rw c.in_use-2.ensures at c.keep_unmet-parts.ensures in
+    let m = rw (c.in_use-3.ensures, c.in_use-4.ensures) at c.settled-wires.ensures in
+    c.answer.ensures _ (removed_wires f g (sheet_of s.ws s.cs) a b m) (removed_parts f g (sheet_of s.ws s.cs) a b m) refl refl

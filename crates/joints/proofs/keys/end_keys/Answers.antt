@@ -1,22 +1,24 @@
--- A pass: after i wires the table holds the keys of their ends, two for each wire.
-use native.Mathlib.Omega.{arith}
-use mathlib.Core.Path.{refl, ◌∙◌}
-use Rattle.lists.proofs.Tables.{long}
-use Rattle.lists.proofs.Passes.{pass_start, pass_next, pass_end}
+-- A pass: the table holds the keys of the ends of the wires passed, two for each.
+use Rattle.std.proofs.Common.{arith, refl, ap, ◌∙◌}
+use Rattle.lists.proofs.Passes.{pass_start, pass_next}
+use Rattle.table.proofs.Passing.{pass_all}
 use Rattle.sheet.specs.Geometry.{ends}
-use Rattle.joints.proofs.Keying.{keyed_push_two}
+use Rattle.joints.specs.Table.{Keys}
+use Rattle.joints.proofs.Keying.{keyed_none, keyed_two}
 use Rattle.joints.proofs.keys.end_keys.Goals as goal
 
-pub loop-i-init : goal.loop-i-init
-loop-i-init c = let z = c.no_keys-out.ensures.count_is in (omega arith, search long, omega arith, pass_start _ _ c.no_keys-out.ensures)
+pub loop-w-init : goal.loop-w-init
+loop-w-init c = let z = keyed_none c.empty-out.ensures in (omega (arith, z.count_is), pass_start _ _ z)
 
-pub loop-i-preserved : goal.loop-i-preserved
-loop-i-preserved c =
-    let l = c.loop-i in
+pub loop-w-preserved : goal.loop-w-preserved
+loop-w-preserved c =
+    let s = c.loop-w.invariant in
     let low = c.key.ensures ∙ c.low_tip.ensures in
-    let high = c.key-in-loop-i.ensures ∙ c.high_tip.ensures in
-    (omega arith, omega arith, omega arith, pass_next _ l.invariant.3 refl (keyed_push_two _ _ l.invariant.3.so_far low high (omega arith)) (omega arith))
+    let high = c.key-in-loop-w.ensures ∙ c.high_tip.ensures in
+    let one = ap (λ (t : Keys). t.count) c.push.ensures in
+    let two = ap (λ (t : Keys). t.count) c.push-in-loop-w.ensures in
+    (omega (arith, one, two), pass_next _ s.1 refl (keyed_two _ _ s.1.so_far low high (omega arith) c.push.ensures c.push-in-loop-w.ensures) c.loop-w-test.true)
 
 pub returns : goal.returns
 unfolding ends
-returns c = pass_end c.args.ws.count c.loop-i.invariant.3 (omega arith)
+returns c = pass_all c.loop-w.invariant.1 c.loop-w-test.false

@@ -1,14 +1,9 @@
--- A pass: after i wires the table holds the keys of their ends, two for each wire.
-use Prim.Native.Nat.{◌≤◌, ◌-◌, ◌*◌}
-use mathlib.Core.Path.{◌≡◌}
-use lib.ListN.{length}
+-- A pass: the table holds the keys of the ends of the wires passed, two for each.
+use Rattle.std.proofs.Common.{◌≡◌, ◌*◌}
 use Rattle.lists.proofs.Passes.{Pass}
 use Rattle.sheet.specs.Geometry.{tips}
 use Rattle.joints.specs.Keys.{Keyed}
 use Rattle.joints.proofs.keys.end_keys.Given as goal
 
-abbrev pub invariant-loop-i : goal.invariant-loop-i
-invariant-loop-i l = (l.i ≤ l.n) × (length l.ws.rows ≡ 512) × (l.out.count ≡ 2 * l.i) × Pass Keyed tips l.ws.rows l.i l.out
-
-abbrev pub decreases-loop-i : goal.decreases-loop-i
-decreases-loop-i l = l.n - l.i
+abbrev pub invariant-loop-w : goal.invariant-loop-w
+invariant-loop-w l = (l.out.count ≡ 2 * l.w-index) × Pass Keyed tips l.ws l.w-index l.out

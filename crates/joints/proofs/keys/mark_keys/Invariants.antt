@@ -1,13 +1,8 @@
--- After i pads the table holds the keys of all wire ends and of these pads.
-use Prim.Native.Nat.{◌≤◌, ◌+◌, ◌-◌}
-use mathlib.Core.Path.{◌≡◌}
-use lib.ListN.{length}
-use Rattle.joints.proofs.Keying.{KeyedTo}
+-- A pass: the table holds the keys of all wire ends and of the pads passed.
+use Rattle.std.proofs.Common.{◌≤◌, ◌+◌, ◌++◌, take}
+use Rattle.sheet.specs.Geometry.{ends}
+use Rattle.joints.specs.Keys.{Keyed}
 use Rattle.joints.proofs.keys.mark_keys.Given as goal
 
-abbrev pub invariant-loop-i : goal.invariant-loop-i
-invariant-loop-i l =
-    (l.i ≤ l.n) × (length l.pads.rows ≡ 384) × (l.initial.out.count ≤ 1024) × (l.out.count ≡ l.initial.out.count + l.i) × KeyedTo l.initial.out l.pads.rows l.i l.out
-
-abbrev pub decreases-loop-i : goal.decreases-loop-i
-decreases-loop-i l = l.n - l.i
+abbrev pub invariant-loop-p : goal.invariant-loop-p
+invariant-loop-p l = (l.out.count ≤ 1024 + l.p-index) × Keyed (ends l.ws ++ take l.p-index l.pads) l.out

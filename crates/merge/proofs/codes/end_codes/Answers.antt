@@ -1,27 +1,23 @@
--- A pass: after i rows the table has the numbers of both ends of each.
-use mathlib.Core.Path.{refl}
-use lib.ListN.{length-set}
-use Rattle.lists.proofs.Tables.{long}
-use Rattle.lists.proofs.Passes.{pass_start, pass_next, pass_end}
-use Rattle.merge.proofs.Coding.{coded_none, coded_as, coded_two}
-use native.Mathlib.Omega.{arith}
+-- A pass: the table has the numbers of both ends of each of the rows passed.
+use Rattle.std.proofs.Common.{arith, refl, ap}
+use Rattle.lists.proofs.Passes.{pass_start, pass_next}
+use Rattle.table.proofs.Passing.{pass_all}
+use Rattle.merge.specs.Numbers.{Numbers}
+use Rattle.merge.proofs.Coding.{listed_none, coded_as, listed_two}
 use Rattle.merge.proofs.codes.end_codes.Goals as goal
 
-pub loop-i-init : goal.loop-i-init
-loop-i-init c = (omega arith, search long, refl, omega arith, pass_start _ _ coded_none)
+pub loop-w-init : goal.loop-w-init
+loop-w-init c = let z = listed_none c.empty-out.ensures in (omega (arith, z.count_is), pass_start _ _ z)
 
-pub code-a-requires : goal.code-a-requires
-code-a-requires c = omega (arith, c.kind_of-kind.ensures.1)
-
-pub code-b-requires : goal.code-b-requires
-code-b-requires c = omega (arith, c.kind_of-kind.ensures.1)
-
-pub loop-i-preserved : goal.loop-i-preserved
-loop-i-preserved c = let s = c.loop-i.invariant.4 in
+pub loop-w-preserved : goal.loop-w-preserved
+loop-w-preserved c =
+    let s = c.loop-w.invariant in
     let k = c.kind_of-kind.ensures.0 in
-    let a = coded_as c.code-a.ensures k c.low_tip-low.ensures in
-    let b = coded_as c.code-b.ensures k c.high_tip-high.ensures in
-    (omega arith, omega arith, simp length-set (omega arith), omega arith, pass_next _ s refl (coded_two c.loop-i.out s.so_far _ _ a b (omega arith)) (omega arith))
+    let a = coded_as c.code.ensures k c.low_tip.ensures in
+    let b = coded_as c.code-in-loop-w.ensures k c.high_tip.ensures in
+    let one = ap (λ (t : Numbers). t.count) c.push.ensures in
+    let two = ap (λ (t : Numbers). t.count) c.push-in-loop-w.ensures in
+    (omega (arith, one, two), pass_next _ s.1 refl (listed_two _ _ s.1.so_far a b (omega arith) c.push.ensures c.push-in-loop-w.ensures) c.loop-w-test.true)
 
 pub returns : goal.returns
-returns c = (pass_end c.args.ws.count c.loop-i.invariant.4 (omega arith), omega arith)
+returns c = ((pass_all c.loop-w.invariant.1 c.loop-w-test.false).coded, omega arith)
