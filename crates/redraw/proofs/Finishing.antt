@@ -20,8 +20,10 @@ use Rattle.sheet.proofs.Rules.{drawn_lists}
 use Rattle.wires.specs.Tables.{Tabled}
 use Rattle.parts.specs.Tables.{TabledParts}
 use Rattle.joints.specs.Tables.{sheet_of, Sound, Counted}
-use Rattle.edits.specs.declared.Made.{Made}
-use Rattle.edits.specs.Making.{room_reply, tables, no_room, made}
+use Rattle.std.specs.Prelude.{Result, Ok, Err, IfOk}
+use Rattle.refusal.specs.declared.Refusal.{Refusal}
+use Rattle.edits.specs.declared.Made.{Made as Tables}
+use Rattle.edits.specs.Making.{Made, room_reply, tables, no_room, told, made}
 use Rattle.edits.proofs.Making.{Room, enough, parts_over, wires_over, room_told, room_is, room_zero, made_by, made_reply}
 use Rattle.redraw.specs.declared.Edited.{Edited}
 use Rattle.redraw.specs.Calls.{refused, edit_done, edited}
@@ -59,6 +61,10 @@ made_sound o each q = subst (λ (x : Made). Sound x.wires x.parts) (sym q) (go (
     go (enough r) = tables_sound o.sheet r each
     go (parts_over p) = none
     go (wires_over p w) = none
+
+pub told_sound : (o : Outcome) → ((c : Component) → c ∈ o.sheet.parts → PartFits c) → (r : Result Tables Refusal) → told r ≡ made o → IfOk r (λ e. Sound e.wires e.parts)
+told_sound o each (Ok e) q = made_sound o each q
+told_sound o each (Err r) q = tt
 
 pub sound_counted : {ws : Wires} {cs : Components} {w : Drawing} → Sound ws cs → w ≡ drawn (sheet_of ws cs) → Counted w
 unfolding drawn

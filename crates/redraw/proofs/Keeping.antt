@@ -3,7 +3,7 @@ use Prim.Native.Nat.{ℕ, ◌≤◌, ◌<◌}
 use native.Mathlib.Omega.{arith}
 use mathlib.Core.Bool.{true, false}
 use mathlib.Core.Path.{◌≡◌, sym, subst, ◌∙◌}
-use borrow.Author.Tests.{lt-ltb, le-ltb}
+use borrow.Author.Tests.{ltb-true}
 use lib.Dec.{T, ltb}
 use Rattle.std.specs.List.{list_any}
 use Rattle.lists.specs.First.{first_row}
@@ -40,11 +40,8 @@ module _ {d : Drawing} (l : Lawful d) (z : Sized d) (c : Component) {row : ℕ} 
   within : ltb row d.components.count ≡ list_any (touches c) (lists_of d).parts
   within = first_below (touches c) d.components.rows d.components.count q (omega (arith, z.components, l.rule1.component_room))
 
-  pub some_touched : row < d.components.count → list_any (touches c) (lists_of d).parts ≡ true
-  some_touched h = sym within ∙ lt-ltb row d.components.count h
-
-  pub none_touched : d.components.count ≤ row → list_any (touches c) (lists_of d).parts ≡ false
-  none_touched h = sym within ∙ le-ltb row d.components.count h
+  pub touched_low : list_any (touches c) (lists_of d).parts ≡ true → row < d.components.count
+  touched_low t = ltb-true row d.components.count (within ∙ t)
 
 pub placed_good : (c : Component) (s : Sheet) → PartFits c → Good s → list_any (touches c) s.parts ≡ false → Good (place_one c s)
 placed_good c s f g e = place_good c s f g (λ b m t. subst T e (passes (touched_reads c s.parts) (b, m, t)))

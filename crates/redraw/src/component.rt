@@ -31,12 +31,15 @@ pub fn add_component_on(
     };
     let ws = d.wires;
     let cs = d.components;
-    let row = first_touched(cs, c);
-    if row < cs.count {
-        let mut e = refused(6, d, t);
-        e.row = row as u16;
-        return e;
+    match first_touched(cs.in_use(), c) {
+        Some(row) => {
+            let mut e = refused(6, d, t);
+            e.row = row as u16;
+            e
+        }
+        None => {
+            let e = place(ws, cs, c);
+            finished(d, t, e)
+        }
     }
-    let e = place(ws, cs, c);
-    finished(d, t, e)
 }

@@ -5,19 +5,21 @@ pub mod component;
 pub mod pointer;
 pub mod wire;
 
-ghost use Rattle.std.specs.Prelude.{◌≡◌};
+ghost use Rattle.std.specs.Prelude.{◌≡◌, IfOk};
 ghost use Rattle.sheet.specs.Edits.{Outcome};
 ghost use Rattle.joints.specs.Tables.{Sound};
-ghost use Rattle.edits.specs.Making.{made};
+ghost use Rattle.edits.specs.Making.{told, made};
 ghost use Rattle.redraw.specs.Calls;
 
 use edits::Made;
 use joints::drawn;
 use joints::tally::tally;
+use refusal::Refusal;
 use sheet::{Drawing, Tally};
 
 // The reply to an edit: its number, the tally and the drawing after it, how many contacts were hit and lost, and for reply 6 the row of the
 // first component that the new one touches.
+// A record with a reply and not a Result: what it tells on a refusal is held by refused's clause and the edits named there.
 #[derive(Clone, Copy)]
 pub struct Edited {
     pub reply: u8,
@@ -44,16 +46,15 @@ pub fn refused(reply: u8, d: Drawing, t: Tally) -> Edited
 }
 
 // The drawing of what an edit made, and its tally; or 7 or 11, where there is no room.
-pub(crate) fn finished(d: Drawing, t: Tally, e: Made) -> Edited
-    requires { Sound e.wires e.parts }
-    ensures { (o : Outcome) → e ≡ made o → result ≡ Calls.edited d t o }
+pub(crate) fn finished(d: Drawing, t: Tally, answer: Result<Made, Refusal>) -> Edited
+    requires { IfOk answer (λ e. Sound e.wires e.parts) }
+    ensures { (o : Outcome) → told answer ≡ made o → result ≡ Calls.edited d t o }
 {
-    if e.reply != 0 {
-        return refused(e.reply, d, t);
-    }
-    let ws = e.wires;
-    let cs = e.parts;
-    let drawing = drawn(ws, cs);
+    let e = match answer {
+        Ok(e) => e,
+        Err(r) => return refused(u8::from(r), d, t),
+    };
+    let drawing = drawn(e.wires, e.parts);
     let sums = tally(drawing);
     Edited {
         reply: 0,

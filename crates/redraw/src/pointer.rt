@@ -3,7 +3,7 @@ ghost use Rattle.std.specs.Prelude.{◌≡◌};
 ghost use Rattle.sheet.specs.Drawings.{lists_of};
 ghost use Rattle.sheet.specs.Rules.{Lawful};
 ghost use Rattle.joints.specs.Tables.{sheet_of, Sound};
-ghost use Rattle.edits.specs.Making.{made, Pointed};
+ghost use Rattle.edits.specs.Making.{told, made, Pointed};
 ghost use Rattle.redraw.specs.Acts;
 ghost use Rattle.redraw.specs.Calls;
 
@@ -12,6 +12,7 @@ use asked::asked_pointer;
 use edits::Made;
 use edits::delete::delete;
 use edits::turn::{mirror, turn_right};
+use refusal::Refusal;
 use sheet::{Components, Drawing, Tally, Wires};
 use symbol::Point;
 
@@ -23,9 +24,9 @@ pub enum Act {
     Mirror,
 }
 
-fn acted(act: Act, ws: Wires, cs: Components, p: Point, size: u16) -> Made
+fn acted(act: Act, ws: Wires, cs: Components, p: Point, size: u16) -> Result<Made, Refusal>
     requires { Sound ws cs × Pointed p size }
-    ensures { result ≡ made (Acts.acted act p size (sheet_of ws cs)) }
+    ensures { told result ≡ made (Acts.acted act p size (sheet_of ws cs)) }
 {
     match act {
         Act::Delete => delete(ws, cs, p, size),

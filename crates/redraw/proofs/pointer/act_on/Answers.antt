@@ -8,7 +8,7 @@ use Rattle.asked.proofs.Handed.{handed_three}
 use Rattle.asked.proofs.Within.{pointer_near}
 use Rattle.redraw.specs.Acts.{acted}
 use Rattle.redraw.proofs.Asking.{pointer_decides, pointer_not_asked}
-use Rattle.redraw.proofs.Finishing.{made_sound}
+use Rattle.redraw.proofs.Finishing.{told_sound}
 use Rattle.redraw.proofs.Keeping.{lawful_sound, acted_good, near_pointed}
 use Rattle.redraw.proofs.pointer.act_on.Goals as goal
 
@@ -22,7 +22,7 @@ acted-e-requires c =
 
 pub finished-requires : goal.finished-requires
 finished-requires c =
-    made_sound _ (acted_good c.args.act _ _ (lists_of c.args.d) (lawful_good c.requires)).fits c.acted-e.ensures
+    told_sound _ (acted_good c.args.act _ _ (lists_of c.args.d) (lawful_good c.requires)).fits _ c.acted-e.ensures
 
 pub returns : goal.returns
 returns c =

@@ -8,7 +8,7 @@ use Rattle.asked.specs.Asked.{asked_wire}
 use Rattle.asked.proofs.Handed.{handed_three}
 use Rattle.asked.proofs.Within.{wire_drawable}
 use Rattle.redraw.proofs.Asking.{wire_decides, wire_not_asked}
-use Rattle.redraw.proofs.Finishing.{made_sound}
+use Rattle.redraw.proofs.Finishing.{told_sound}
 use Rattle.redraw.proofs.Keeping.{lawful_sound}
 use Rattle.redraw.proofs.wire.add_wire_on.Goals as goal
 
@@ -18,7 +18,7 @@ draw-e-requires c =
 
 pub finished-requires : goal.finished-requires
 finished-requires c =
-    made_sound _ (wire_good _ (lists_of c.args.d) (wire_drawable _ _ _ _ (c.in-Ok.ensures ∙ handed_three (asked_wire c.args.vertical) _ _ _ c.ranges.line c.ranges.start c.ranges.end) refl) (lawful_good c.requires)).fits c.draw-e.ensures
+    told_sound _ (wire_good _ (lists_of c.args.d) (wire_drawable _ _ _ _ (c.in-Ok.ensures ∙ handed_three (asked_wire c.args.vertical) _ _ _ c.ranges.line c.ranges.start c.ranges.end) refl) (lawful_good c.requires)).fits _ c.draw-e.ensures
 
 pub returns : goal.returns
 returns c =
