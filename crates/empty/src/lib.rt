@@ -7,15 +7,11 @@ ghost use Rattle.sheet.specs.Drawings;
 ghost use Rattle.sheet.specs.Rules.{Lawful};
 
 use joints::drawn;
-use parts::no_parts;
-use sheet::Drawing;
-use wires::no_wires;
+use sheet::{Components, Drawing, Wires, ZERO_COMPONENT, ZERO_WIRE};
 
 // The drawing that a script starts from, and that the reader hands back on refusal.
 pub fn empty_drawing() -> Drawing
     ensures { (result ≡ Drawings.drawn empty_sheet) × Lawful result }
 {
-    let ws = no_wires();
-    let cs = no_parts();
-    drawn(ws, cs)
+    drawn(Wires::empty(ZERO_WIRE), Components::empty(ZERO_COMPONENT))
 }

@@ -2,12 +2,11 @@
 // compared.
 #![tactic(auto)]
 
-ghost use Rattle.std.specs.Prelude.{◌≡◌, true, not, ◌&&◌, map, ◌≤◌, eqb};
+ghost use Rattle.std.specs.Prelude.{◌≡◌, true, not, ◌&&◌, map, ◌≤◌, eqb, length};
 ghost use Rattle.sheet.specs.Geometry.{marks};
 ghost use Rattle.sheet.specs.Joints.{joint_point, Rising};
 ghost use Rattle.sheet.specs.Rules.{Rule6};
-ghost use Rattle.sheet.specs.Drawings.{wire_rows, joint_rows};
-ghost use Rattle.wires.specs.Tables.{point_rows};
+ghost use Rattle.sheet.specs.Drawings.{joint_rows};
 ghost use Rattle.joints.specs.Keys.{spot};
 ghost use Rattle.joints.specs.Sorting.{key_rows};
 ghost use Rattle.joint_check.specs.Meetings.{MetBy, CountsAgree};
@@ -15,8 +14,8 @@ ghost use Rattle.joint_check.specs.Meetings.{MetBy, CountsAgree};
 use chains::{chain, seek};
 use joints::keys::{joint_keys, mark_keys};
 use joints::sort::Keys;
-use sheet::{Joints, Wires};
-use wires::Points;
+use sheet::{Joints, Wire};
+use symbol::Point;
 
 // How often each joint row was met, if every key met one.
 #[derive(Clone, Copy)]
@@ -83,9 +82,9 @@ fn counts_agree(js: Joints, counts: [u16; 1408]) -> bool
 
 // Only rows that list each point with a wire end or pad once, with the number of both, and nothing else, pass. Two wrong answers that this
 // rules out: a row with a wrong count passes (wrong_count_listed), and a row where nothing lies (row_of_no_point_listed).
-pub fn joints_listed(js: Joints, ws: Wires, pads: Points) -> bool
-    requires { (js.count ≤ 1408) × (Rising (joint_rows js) × ((ws.count ≤ 512) × (pads.count ≤ 384))) }
-    ensures { result ≡ true → Rule6 (joint_rows js) (marks (wire_rows ws) (point_rows pads)) }
+pub fn joints_listed(js: Joints, ws: &[Wire], pads: &[Point]) -> bool
+    requires { (js.count ≤ 1408) × (Rising (joint_rows js) × ((length ws.now ≤ 512) × (length pads.now ≤ 384))) }
+    ensures { result ≡ true → Rule6 (joint_rows js) (marks ws.now pads.now) }
 {
     let ks = mark_keys(ws, pads);
     let met = count_met(js, ks);

@@ -10,10 +10,9 @@ mod runs;
 ghost use Rattle.std.specs.Prelude.{◌≡◌, true, ◌≤◌, length};
 ghost use Rattle.sheet.specs.Geometry.{marks};
 ghost use Rattle.sheet.specs.Joints.{joints_of};
-ghost use Rattle.sheet.specs.Drawings.{wire_rows, joint_rows};
+ghost use Rattle.sheet.specs.Drawings.{joint_rows};
 ghost use Rattle.sheet.specs.Wiring.{AllFit, Wired};
 ghost use Rattle.sheet.specs.Rules.{Lawful};
-ghost use Rattle.wires.specs.Tables.{point_rows};
 ghost use Rattle.rules.specs.Check.{check_of};
 
 use crate::boxes::none_touch;
@@ -24,9 +23,8 @@ use limits::within_limits;
 use parts::pads::all_pads;
 use row_order::{components_rise, joints_rise};
 use rules::Checked;
-use sheet::{Drawing, Joint, Joints, Wire, Wires};
+use sheet::{Drawing, Joint, Joints, Wire};
 use symbol::Point;
-use wires::Points;
 
 // Rules 2 to 4 and 7 of wires hold.
 fn wires_right(ws: &[Wire], pads: &[Point], js: &[Joint]) -> bool
@@ -37,9 +35,9 @@ fn wires_right(ws: &[Wire], pads: &[Point], js: &[Joint]) -> bool
 }
 
 // Rules 6 and 7 of joints hold.
-fn joints_right(js: Joints, ws: Wires, pads: Points) -> bool
-    requires { (js.count ≤ 1408) × ((ws.count ≤ 512) × (pads.count ≤ 384)) }
-    ensures { result ≡ true → joint_rows js ≡ joints_of (marks (wire_rows ws) (point_rows pads)) }
+fn joints_right(js: Joints, ws: &[Wire], pads: &[Point]) -> bool
+    requires { (js.count ≤ 1408) × ((length ws.now ≤ 512) × (length pads.now ≤ 384)) }
+    ensures { result ≡ true → joint_rows js ≡ joints_of (marks ws.now pads.now) }
 {
     if !joints_rise(js.in_use()) {
         return false;
@@ -54,13 +52,14 @@ fn all_right(d: Drawing) -> bool
     if !within_limits(d) {
         return false;
     }
-    let pads = all_pads(d.components);
-    if !joints_right(d.joints, d.wires, pads) {
+    let ws = d.wires.in_use();
+    let cs = d.components.in_use();
+    let points = all_pads(cs);
+    let pads = points.in_use();
+    if !joints_right(d.joints, ws, pads) {
         return false;
     }
-    let cs = d.components.in_use();
-    components_rise(cs)
-        & (none_touch(cs) & wires_right(d.wires.in_use(), pads.in_use(), d.joints.in_use()))
+    components_rise(cs) & (none_touch(cs) & wires_right(ws, pads, d.joints.in_use()))
 }
 
 // The first broken rule of a drawing, or 0; for rule 5 the two rows whose boxes share a point.

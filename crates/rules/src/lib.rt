@@ -49,8 +49,8 @@ fn count_afresh(d: &Drawing) -> Joints
     requires { Within d.now }
     ensures { joint_rows result ≡ joints_of (marks_of (lists_of d.now)) }
 {
-    let pads = all_pads(d.components);
-    count_joints(d.wires, pads)
+    let pads = all_pads(d.components.in_use());
+    count_joints(d.wires.in_use(), pads.in_use())
 }
 
 // The first broken rule from rule 5 on.

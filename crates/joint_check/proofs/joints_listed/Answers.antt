@@ -2,12 +2,11 @@
 use native.Mathlib.Omega.{arith}
 use mathlib.Core.List.{map}
 use mathlib.Core.Path.{◌≡◌, subst}
-use lib.ListN.{length, length-take}
+use lib.ListN.{length}
 use Rattle.lists.proofs.Tables.{long}
 use Rattle.lists.proofs.Tests.{both}
 use Rattle.sheet.specs.Joints.{joint_point}
-use Rattle.sheet.specs.Drawings.{wire_rows, joint_rows}
-use Rattle.wires.specs.Tables.{point_rows}
+use Rattle.sheet.specs.Drawings.{joint_rows}
 use Rattle.joints.proofs.Keying.{marks_few}
 use Rattle.joint_check.specs.Meetings.{MetBy}
 use Rattle.joint_check.proofs.Meeting.{met_listed}
@@ -17,7 +16,7 @@ pub count_met-met-requires : goal.count_met-met-requires
 count_met-met-requires c =
     let a = c.args in
     let p = c.requires in
-    (p.0, (marks_few (wire_rows a.ws) (point_rows a.pads) c.mark_keys-ks.ensures (omega (arith, length-take a.ws.count a.ws.rows)) (omega (arith, length-take a.pads.count a.pads.rows)), p.1.0))
+    (p.0, (marks_few a.ws.now a.pads.now c.mark_keys-ks.ensures p.1.1.0 p.1.1.1, p.1.0))
 
 pub returns : goal.returns
 returns c = λ e.
