@@ -27,8 +27,7 @@ use Rattle.sheet.specs.Parts.{ahead, pads_of}
 use Rattle.sheet.specs.Run.{lay_wire}
 use Rattle.sheet.specs.Split.{split_at}
 use Rattle.sheet.proofs.Totals.{joints_few}
-use Rattle.wires.specs.declared.Grown.{Grown}
-use Rattle.wires.specs.Tables.{Grows}
+use Rattle.wires.specs.Tables.{Tabled}
 use Rattle.joints.specs.Tables.{sheet_of}
 use Rattle.asked.specs.Asked.{AskedPointer}
 use Rattle.asked.specs.Asked.{AskedWire}
@@ -41,9 +40,13 @@ use Rattle.asked.specs.Asked.{asked_wire, part_told, asked_part, asked_pointer}
 use Rattle.bench_calls.specs.Numbered.{label}
 use Rattle.bench_calls.specs.Tables.{grown_rows, line_at, x_at, pointed_answer, laid_answer, inserted_answer, whole_answer, table_answer}
 
-pub grown_rows_lem : {ws : List Wire} {g : Grown} → Grows ws g → g.table.count ≡ grown_rows ws
+pub grown_rows_lem : {ws : List Wire} {t : Wires} → Tabled ws t → t.count ≡ grown_rows ws
 unfolding grown_rows
-grown_rows_lem {ws} h = h.holds.count_is ∙ ap (λ (b : Bool). length (cond b [] ws)) h.full_is
+grown_rows_lem {ws} h = h.count_is ∙ ap (λ (b : Bool). length (cond b [] ws)) (sym (le-ltb 512 (length ws) h.room))
+
+pub no_rows_lem : (ws : List Wire) → 512 < length ws → 0 ≡ grown_rows ws
+unfolding grown_rows
+no_rows_lem ws h = ap (λ (b : Bool). length (cond b [] ws)) (sym (lt-ltb 512 (length ws) h))
 
 -- ---- rows
 

@@ -32,16 +32,17 @@ fn split_rows(ws: Wires, p: Point) -> u32
     requires { ws.count ≤ 512 }
     ensures { result ≡ grown_rows (split_at p (wire_rows ws)) }
 {
-    let g = split_at(ws, p);
-    let t = g.table;
-    t.count as u32
+    match split_at(ws.in_use(), p) {
+        Ok(t) => t.count as u32,
+        Err(_) => 0,
+    }
 }
 
 fn unhit_row(ws: Wires, p: Point, size: u16) -> u32
     requires { (ws.count ≤ 512) × ((p.x ≤ 12000) × ((p.y ≤ 12000) × (size ≤ 1000))) }
     ensures { result ≡ line_at (size % 512) (filter (λ w. not (meets_wire p size w)) (wire_rows ws)) }
 {
-    let t = keep_unhit(ws, p, size);
+    let t = keep_unhit(ws.in_use(), p, size);
     let i = (size % 512) as usize;
     let w = t.rows[i];
     w.line as u32
@@ -51,7 +52,7 @@ fn unmet_row(cs: Components, p: Point, size: u16) -> u32
     requires { PartsFit cs × ((p.x ≤ 12000) × ((p.y ≤ 12000) × (size ≤ 1000))) }
     ensures { result ≡ x_at (size % 128) (filter (λ c. not (meets_part p size c)) (component_rows cs)) }
 {
-    let t = keep_unmet(cs, p, size);
+    let t = keep_unmet(cs.in_use(), p, size);
     let i = (size % 128) as usize;
     let c = t.rows[i];
     c.x as u32
@@ -61,10 +62,11 @@ fn laid_rows(ws: Wires, cs: Components, n: Wire) -> u32
     requires { (ws.count ≤ 512) × (PartsFit cs × (n.end ≤ 12000)) }
     ensures { result ≡ grown_rows (Run.lay_wire n (wire_rows ws) (pads_of (component_rows cs))) }
 {
-    let pads = all_pads(cs);
-    let g = add_wire::add_wire(ws, n, pads);
-    let t = g.table;
-    t.count as u32
+    let pads = all_pads(cs.in_use());
+    match add_wire::add_wire(ws.in_use(), n, pads.in_use()) {
+        Ok(t) => t.count as u32,
+        Err(_) => 0,
+    }
 }
 
 fn inserted_row(cs: Components, c: Component) -> u32
@@ -81,8 +83,8 @@ fn merged_rows(ws: Wires, cs: Components) -> u32
     requires { (ws.count ≤ 512) × PartsFit cs }
     ensures { result ≡ length (Merge.merge (wire_rows ws) (pads_of (component_rows cs))) }
 {
-    let pads = all_pads(cs);
-    let t = merge::merge(ws, pads);
+    let pads = all_pads(cs.in_use());
+    let t = merge::merge(ws.in_use(), pads.in_use());
     t.count as u32
 }
 
@@ -90,8 +92,8 @@ fn joint_rows(ws: Wires, cs: Components) -> u32
     requires { (ws.count ≤ 512) × PartsFit cs }
     ensures { result ≡ length (joints_of (marks (wire_rows ws) (pads_of (component_rows cs)))) }
 {
-    let pads = all_pads(cs);
-    let t = count_joints(ws, pads);
+    let pads = all_pads(cs.in_use());
+    let t = count_joints(ws.in_use(), pads.in_use());
     t.count as u32
 }
 
@@ -99,7 +101,7 @@ fn pad_rows(cs: Components) -> u32
     requires { PartsFit cs }
     ensures { result ≡ length (pads_of (component_rows cs)) }
 {
-    let pads = all_pads(cs);
+    let pads = all_pads(cs.in_use());
     pads.count as u32
 }
 

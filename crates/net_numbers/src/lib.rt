@@ -14,9 +14,8 @@ ghost use Rattle.net_numbers.specs.Found.{Ascending, IndexOf, NumberAt, Jointed,
 
 use joints::keys::{joint_keys, key};
 use nets::{Link, Links, Pads, pad_nets};
-use parts::no_parts;
 use parts::pads::all_pads;
-use sheet::{Components, Drawing, Joints, Wires};
+use sheet::{Components, Drawing, Joints, Wires, ZERO_COMPONENT};
 use symbol::Point;
 use wires::Points;
 use wires::geometry::{high_tip, low_tip};
@@ -81,7 +80,7 @@ fn powers(cs: Components) -> Components
     requires { cs.count ≤ 128 }
     ensures { TabledParts (filter is_power (component_rows cs)) result }
 {
-    let mut out = no_parts();
+    let mut out = Components::empty(ZERO_COMPONENT);
     for i in 0..cs.count {
         let c = cs.rows[i];
         if c.kind == 0 {
@@ -100,7 +99,8 @@ pub fn pad_numbers(d: Drawing) -> [u16; 384]
     let cs = d.components;
     let js = d.joints;
     let wires = links(ws, js);
-    let fed = joint_numbers(all_pads(powers(cs)), js);
-    let pads = joint_numbers(all_pads(cs), js);
+    let sources = powers(cs);
+    let fed = joint_numbers(all_pads(sources.in_use()), js);
+    let pads = joint_numbers(all_pads(cs.in_use()), js);
     pad_nets(wires, fed, pads)
 }

@@ -3,14 +3,14 @@ use native.Mathlib.Omega.{arith}
 use borrow.Author.Tests.{eq-eqb, ne_eqb}
 use Rattle.lists.proofs.Tables.{long, holds_as}
 use mathlib.Core.Path.{ap}
-use Rattle.table.proofs.Rows.{pushed_holds}
 use Rattle.sheet.specs.Tables.{Components}
 use Rattle.lists.proofs.Passes.{pass_start, pass_next, pass_skip, pass_end, only_yes, only_no, keep_gather}
+use Rattle.table.proofs.Rows.{empty_holds, pushed_holds}
 use Rattle.net_numbers.proofs.powers.Goals as goal
 use Rattle.net_numbers.proofs.powers.Goals.{then-c-eq0, else-c-eq0}
 
 pub loop-i-init : goal.loop-i-init
-loop-i-init c = let z = c.no_parts-out.ensures.count_is in (search long, omega arith, pass_start _ _ c.no_parts-out.ensures)
+loop-i-init c = let z = empty_holds c.empty-out.ensures in (search long, omega (arith, z.count_is), pass_start _ _ z)
 
 pub loop-i-preserved : goal.loop-i-preserved
 loop-i-preserved c =

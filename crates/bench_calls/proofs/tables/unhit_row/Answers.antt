@@ -6,4 +6,4 @@ use Rattle.bench_calls.proofs.Rowing.{row_is}
 use Rattle.bench_calls.proofs.tables.unhit_row.Goals as goal
 
 pub returns : goal.returns
-returns c = row_is c.keep_unhit-t.ensures (λ (r : Wire). r.line) (c.args.size % 512) _ (omega arith)
+returns c = row_is (rw c.in_use.ensures at c.keep_unhit-t.ensures) (λ (r : Wire). r.line) (c.args.size % 512) _ (omega arith)

@@ -6,4 +6,4 @@ use Rattle.bench_calls.proofs.Rowing.{row_is}
 use Rattle.bench_calls.proofs.tables.unmet_row.Goals as goal
 
 pub returns : goal.returns
-returns c = row_is c.keep_unmet-t.ensures (λ (r : Component). r.x) (c.args.size % 128) _ (omega arith)
+returns c = row_is (rw c.in_use.ensures at c.keep_unmet-t.ensures) (λ (r : Component). r.x) (c.args.size % 128) _ (omega arith)
