@@ -11,7 +11,7 @@ use mathlib.Core.Logic.{⊎_elim, ◌≢◌}
 use mathlib.Core.Path.{◌≡◌, refl, sym, ap, subst, ◌∙◌}
 use lib.Dec.{T, eqb}
 use lib.ListN.{length, get_or, set, take, replicate, get_or-replicate, length-replicate, length-set, length-map, length-take, get_or-map}
-use lib.Seq.{get_or-set_same, get_or-set_other, get_or-take, length-take-le}
+use lib.Seq.{take_all, get_or-set_same, get_or-set_other, get_or-take, length-take-le}
 use Rattle.lists.specs.Lists.{◌∈◌, Rows}
 use Rattle.lists.proofs.Tests.{holds, decide, choose, and_reads, not_reads, eqb_reads, compare}
 use Rattle.lists.proofs.Order.{rows_all, rows_map}
@@ -102,8 +102,8 @@ module _ (codes : List ℕ) (n : ℕ) (few : n ≤ 1408) (long : length codes �
         }
 
 -- the codes are the keys of points
-pub meeting_end : {codes rows counts : List ℕ} {n i : ℕ} {qs : List Point} (m : ℕ) → Meeting codes n rows i counts → i ≡ m → map spot (take n codes) ≡ qs → MetBy (map spot (take m rows)) qs counts
-meeting_end {rows = rows} {counts} {i = i} {qs} m s e f = subst (λ (k : ℕ). MetBy (map spot (take k rows)) qs counts) e (subst (λ (l : List Point). MetBy (map spot (take i rows)) l counts) f s.so_far)
+pub meeting_end : {codes rows counts : List ℕ} {n i : ℕ} {qs : List Point} → Meeting codes n rows i counts → length rows ≤ i → map spot (take n codes) ≡ qs → MetBy (map spot rows) qs counts
+meeting_end {rows = rows} {counts} {i = i} {qs} s e f = subst (λ (l : List ℕ). MetBy (map spot l) qs counts) (take_all i rows e) (subst (λ (l : List Point). MetBy (map spot (take i rows)) l counts) f s.so_far)
 
 -- ---- what was counted and what the rows tell
 

@@ -2,57 +2,36 @@
 // compared.
 #![tactic(auto)]
 
-ghost use Rattle.std.specs.Prelude.{◌≡◌, true, not, ◌&&◌, map, ◌≤◌, eqb, length};
+ghost use Rattle.std.specs.Prelude.{◌≡◌, true, not, ◌&&◌, map, ◌≤◌, eqb, length, IfSome};
 ghost use Rattle.sheet.specs.Geometry.{marks};
 ghost use Rattle.sheet.specs.Joints.{joint_point, Rising};
 ghost use Rattle.sheet.specs.Rules.{Rule6};
 ghost use Rattle.sheet.specs.Drawings.{joint_rows};
 ghost use Rattle.joints.specs.Keys.{spot};
-ghost use Rattle.joints.specs.Sorting.{key_rows};
 ghost use Rattle.joint_check.specs.Meetings.{MetBy, CountsAgree};
 
 use chains::{chain, seek};
 use joints::keys::{joint_keys, mark_keys};
-use joints::sort::Keys;
 use sheet::{Joints, Wire};
 use symbol::Point;
 
-// How often each joint row was met, if every key met one.
-#[derive(Clone, Copy)]
-pub struct Meetings {
-    pub all: bool,
-    pub counts: [u16; 1408],
-}
-
-// How often the keys meet each joint row.
-fn count_met(js: Joints, ks: Keys) -> Meetings
-    requires { (js.count ≤ 1408) × ((ks.count ≤ 1408) × Rising (joint_rows js)) }
-    ensures { result.all ≡ true → MetBy (map spot (key_rows ks)) (map joint_point (joint_rows js)) result.counts }
+// How often the keys meet each joint row, if every key meets one.
+fn count_met(js: Joints, ks: &[u32]) -> Option<[u16; 1408]>
+    requires { (js.count ≤ 1408) × ((length ks.now ≤ 1408) × Rising (joint_rows js)) }
+    ensures { IfSome result (MetBy (map spot ks.now) (map joint_point (joint_rows js))) }
 {
     let n = js.count;
-    let m = ks.count;
     let codes = joint_keys(js);
     let index = chain(codes, n);
-    let last = index.last;
-    let before = index.before;
-    let mut out = Meetings {
-        all: true,
-        counts: [0; 1408],
-    };
-    let mut i = 0;
-    while i < m {
-        let k = ks.rows[i];
-        let c = k as u64;
-        let r = seek(&codes, n, &last, &before, c);
+    let mut counts = [0; 1408];
+    for k in ks {
+        let r = seek(&codes, n, &index.last, &index.before, *k as u64);
         if n <= r {
-            out.all = false;
-            return out;
+            return None;
         }
-        let met = out.counts[r];
-        out.counts[r] = met + 1;
-        i += 1;
+        counts[r] += 1;
     }
-    out
+    Some(counts)
 }
 
 // A row was met, and as often as it tells.
@@ -63,19 +42,14 @@ fn agrees(met: u16, count: u16) -> bool
 }
 
 // Each row was met, and as often as it tells.
-fn counts_agree(js: Joints, counts: [u16; 1408]) -> bool
+fn counts_agree(js: Joints, counts: &[u16; 1408]) -> bool
     requires { js.count ≤ 1408 }
-    ensures { result ≡ true → CountsAgree js.rows js.count counts }
+    ensures { result ≡ true → CountsAgree js.rows js.count counts.now }
 {
-    let n = js.count;
-    let mut i = 0;
-    while i < n {
-        let j = js.rows[i];
-        let met = counts[i];
-        if !agrees(met, j.count) {
+    for i in 0..js.count {
+        if !agrees(counts[i], js.rows[i].count) {
             return false;
         }
-        i += 1;
     }
     true
 }
@@ -87,7 +61,8 @@ pub fn joints_listed(js: Joints, ws: &[Wire], pads: &[Point]) -> bool
     ensures { result ≡ true → Rule6 (joint_rows js) (marks ws.now pads.now) }
 {
     let ks = mark_keys(ws, pads);
-    let met = count_met(js, ks);
-    let counts = met.counts;
-    met.all & counts_agree(js, counts)
+    match count_met(js, ks.in_use()) {
+        Some(counts) => counts_agree(js, &counts),
+        None => false,
+    }
 }

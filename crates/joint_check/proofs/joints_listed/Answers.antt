@@ -1,28 +1,30 @@
 -- All wire ends and pads met a row, and each row tells how many did.
-use native.Mathlib.Omega.{arith}
-use mathlib.Core.List.{map}
-use mathlib.Core.Path.{◌≡◌, subst}
-use lib.ListN.{length}
+use Rattle.std.proofs.Common.{arith, subst, sym, ap, map, length, ◌≡◌, ◌∙◌}
+use mathlib.Core.Bool.{false≢true}
+use lib.ListN.{length-take}
 use Rattle.lists.proofs.Tables.{long}
-use Rattle.lists.proofs.Tests.{both}
 use Rattle.sheet.specs.Joints.{joint_point}
 use Rattle.sheet.specs.Drawings.{joint_rows}
+use Rattle.joints.specs.Keys.{spot}
 use Rattle.joints.proofs.Keying.{marks_few}
 use Rattle.joint_check.specs.Meetings.{MetBy}
 use Rattle.joint_check.proofs.Meeting.{met_listed}
 use Rattle.joint_check.proofs.joints_listed.Goals as goal
 
-pub count_met-met-requires : goal.count_met-met-requires
-count_met-met-requires c =
+pub count_met-requires : goal.count_met-requires
+count_met-requires c =
     let a = c.args in
     let p = c.requires in
-    (p.0, (marks_few a.ws.now a.pads.now c.mark_keys-ks.ensures p.1.1.0 p.1.1.1, p.1.0))
+    let few = marks_few a.ws.now a.pads.now c.mark_keys-ks.ensures p.1.1.0 p.1.1.1 in
+    (p.0, (rw c.in_use.ensures (omega (arith, few, length-take c.mark_keys-ks.result.count c.mark_keys-ks.result.rows)), p.1.0))
 
-pub returns : goal.returns
-returns c = λ e.
+pub returns-in-Some : goal.returns-in-Some
+returns-in-Some c = λ e.
     let js = c.args.js in
     let p = c.requires in
     let size : length js.rows ≡ 1408 = search long in
-    let yes = both _ _ e in
-    let met = subst (λ ps. MetBy ps (map joint_point (joint_rows js)) c.count_met-met.result.counts) c.mark_keys-ks.ensures.points (c.count_met-met.ensures yes.0) in
-    met_listed js p.0 size p.1.0 met (c.counts_agree.ensures yes.1)
+    let met = subst (λ ps. MetBy ps (map joint_point (joint_rows js)) c.in-Some.counts) (ap (map spot) c.in_use.ensures ∙ c.mark_keys-ks.ensures.points) c.in-Some.ensures in
+    met_listed js p.0 size p.1.0 met (c.counts_agree.ensures e)
+
+pub returns-in-None : goal.returns-in-None
+returns-in-None c = λ e. absurd (false≢true e)
