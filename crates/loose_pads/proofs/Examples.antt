@@ -2,7 +2,6 @@
 use mathlib.Core.List.{[], ◌∷◌}
 use mathlib.Core.Path.{◌≡◌, refl}
 use Rattle.lists.specs.Lists.{insert}
-use Rattle.std.specs.List.{list_any, filter, flat_map}
 use Rattle.lists.specs.Span.{span}
 use Rattle.edge.specs.Coordinates.{biased}
 use Rattle.sheet.specs.Points.{same, rises}

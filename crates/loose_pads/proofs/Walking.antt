@@ -1,17 +1,15 @@
 -- The walk over the components: what is counted of the pads passed, and what is left to count from pad p on, make the whole.
-use Prim.Native.Nat.{ℕ, zero, suc, ◌+◌, ◌-◌, ◌≤◌, ◌<◌}
+use Prim.Native.Nat.{ℕ, zero, suc, ◌+◌, ◌-◌, ◌<◌}
 use native.Mathlib.Omega.{arith}
 use mathlib.Core.Bool.{Bool, true, false, ◌&&◌, cond}
 use mathlib.Core.List.{List, [], ◌∷◌, ◌++◌}
 use mathlib.Core.Path.{◌≡◌, refl, sym, ap, subst, ◌∙◌}
 use lib.ListN.{length, get_or, drop}
-use lib.Seq.{get_or-drop, drop-drop}
-use Rattle.std.specs.List.{filter, flat_map}
-use Rattle.lists.proofs.Walks.{rows_from_lem}
+use lib.Seq.{get_or-drop, drop-drop, drop-cons}
+use native.Mathlib.Numerals.{add-one}
+use Rattle.std.specs.List.{filter}
 use Rattle.symbol.specs.Symbols.{pads_at}
 use Rattle.sheet.specs.declared.Component.{Component}
-use Rattle.sheet.specs.Tables.{Components}
-use Rattle.sheet.specs.Drawings.{component_rows}
 use Rattle.loose_pads.specs.Loose.{PadName, pad-v, names_of, pad_names, kinds_of}
 use Rattle.loose_pads.specs.Counting.{spare, loose_by, is_loose, numbers_from, loose_pads}
 use Rattle.loose_pads.specs.Walking.{counts, loose_part}
@@ -100,12 +98,13 @@ module _ {kinds ns : List ℕ} {p loose : ℕ} where
       dropped (suc zero) = refl
       dropped (suc (suc j)) = refl
 
-  -- the component in row i of a table
-  pub walk_row : (t : Components) (i : ℕ) (d : Component) → i < t.count → t.count ≤ length t.rows → Walked kinds ns (kinds_of (drop i (component_rows t))) p loose
-      → {m r : ℕ} → m ≡ length (pads_at (get_or t.rows i d).kind) → {n a b : Bool} → n ≡ spare ns p → a ≡ spare ns (p + 1) → b ≡ spare ns (p + 2) → r ≡ loose_part (get_or t.rows i d).kind n a b
-      → Walked kinds ns (kinds_of (drop (i + 1) (component_rows t))) (p + m) (loose + r)
-  walk_row t i d h k w e en ea eb f =
-      walk_next (subst (λ (cs : List Component). Walked kinds ns (kinds_of cs) p loose) (rows_from_lem t.rows t.count i d h k) w) e (f ∙ (λ j. loose_part (get_or t.rows i d).kind (en j) (ea j) (eb j)))
+  -- the component at i of a list
+  pub walk_row : (cs : List Component) (i : ℕ) (d : Component) → i < length cs → Walked kinds ns (kinds_of (drop i cs)) p loose
+      → {m r : ℕ} → m ≡ length (pads_at (get_or cs i d).kind) → {n a b : Bool} → n ≡ spare ns p → a ≡ spare ns (p + 1) → b ≡ spare ns (p + 2) → r ≡ loose_part (get_or cs i d).kind n a b
+      → Walked kinds ns (kinds_of (drop (i + 1) cs)) (p + m) (loose + r)
+  walk_row cs i d h w e en ea eb f =
+      let here : drop i cs ≡ get_or cs i d ∷ drop (i + 1) cs = drop-cons cs i d h ∙ ap (λ k. get_or cs i d ∷ drop k cs) (sym (add-one i)) in
+      walk_next (subst (λ (l : List Component). Walked kinds ns (kinds_of l) p loose) here w) e (f ∙ (λ j. loose_part (get_or cs i d).kind (en j) (ea j) (eb j)))
 
   pub walk_end : Walked kinds ns [] p loose → loose ≡ length (loose_pads kinds ns)
   unfolding pad_names loose_from numbers_from

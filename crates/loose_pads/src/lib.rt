@@ -3,7 +3,7 @@
 
 ghost use Rattle.std.specs.Prelude.{not, ◌&&◌, ◌≡◌, ◌≤◌, ◌<◌, eqb, length, get_or};
 ghost use Rattle.lists.specs.Tables.{pad};
-ghost use Rattle.sheet.specs.Drawings.{component_rows, lists_of};
+ghost use Rattle.sheet.specs.Drawings.{lists_of};
 ghost use Rattle.sheet.specs.Rules.{Lawful};
 ghost use Rattle.net_numbers.specs.Netted.{net_numbers};
 ghost use Rattle.loose_pads.specs.Loose.{kinds_of};
@@ -11,7 +11,7 @@ ghost use Rattle.loose_pads.specs.Counting.{loose_pads, loose_of};
 ghost use Rattle.loose_pads.specs.Walking.{Low, Occurrences, counts, loose_part};
 
 use parts::pads::pads_of_kind;
-use sheet::{Components, Drawing};
+use sheet::{Component, Drawing};
 
 // How often each net number occurs.
 fn occurrences(numbers: [u16; 384]) -> [u16; 385]
@@ -19,12 +19,8 @@ fn occurrences(numbers: [u16; 384]) -> [u16; 385]
     ensures { Occurrences numbers result }
 {
     let mut table = [0u16; 385];
-    let mut i = 0;
-    while i < 384 {
-        let n = numbers[i] as usize;
-        let before = table[n];
-        table[n] = before + 1;
-        i += 1;
+    for n in &numbers {
+        table[*n as usize] += 1;
     }
     table
 }
@@ -34,22 +30,14 @@ fn is_spare(table: &[u16; 385], number: u16) -> bool
     requires { number < 385 }
     ensures { result ≡ not (eqb number 0) && eqb (get_or table.now number 0) 1 }
 {
-    if number == 0 {
-        return false;
-    }
-    table[number as usize] == 1
+    number != 0 && table[number as usize] == 1
 }
 
 // 1 for a spare pad whose other one of the two is spare too; else 0.
 fn counted(own: bool, other: bool) -> u32
     ensures { (result ≡ counts own other) × (result ≤ 1) }
 {
-    if own {
-        if other {
-            return 1;
-        }
-    }
-    0
+    u32::from(own && other)
 }
 
 // The loose pads of a component, by which of its pads are spare.
@@ -66,24 +54,20 @@ fn loose_part(kind: u8, n: bool, a: bool, b: bool) -> u32
 }
 
 // The loose pads of all components, where their pads have these net numbers.
-fn count_in(cs: Components, numbers: [u16; 384]) -> u32
-    requires few { cs.count ≤ 128 }
+fn count_in(cs: &[Component], numbers: [u16; 384]) -> u32
+    requires few { length cs.now ≤ 128 }
     requires low { Low numbers }
-    ensures { result ≡ length (loose_pads (kinds_of (component_rows cs)) numbers) }
+    ensures { result ≡ length (loose_pads (kinds_of cs.now) numbers) }
 {
     let table = occurrences(numbers);
-    let count = cs.count;
     let mut loose: u32 = 0;
     let mut pad: usize = 0;
-    let mut i: usize = 0;
-    while i < count {
-        let c = cs.rows[i];
+    for c in cs {
         let n = is_spare(&table, numbers[pad]);
         let a = is_spare(&table, numbers[pad + 1]);
         let b = is_spare(&table, numbers[pad + 2]);
         loose += loose_part(c.kind, n, a, b);
         pad += pads_of_kind(c.kind);
-        i += 1;
     }
     loose
 }
@@ -94,6 +78,5 @@ pub fn count_loose(d: Drawing, numbers: [u16; 384]) -> u32
     requires numbered { numbers ≡ pad 384 0 (net_numbers (lists_of d)) }
     ensures { result ≡ loose_of (lists_of d) }
 {
-    let cs = d.components;
-    count_in(cs, numbers)
+    count_in(d.components.in_use(), numbers)
 }
