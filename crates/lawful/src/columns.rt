@@ -21,7 +21,8 @@ pub fn column(x: u16) -> usize
     0
 }
 
-// The joint rows by column. What stands first in a column is only where to look: that none is passed over is what counts.
+// The joint rows by column, from the last row down: a `for` over the rows in reverse hands its proof no row number.
+// What stands first in a column is only where to look: that none is passed over is what counts.
 pub fn by_column(js: &[Joint]) -> Columns
     requires { length js.now ≤ 1408 }
     ensures { Chained js.now (length js.now) result.next }
