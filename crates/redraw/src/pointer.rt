@@ -17,6 +17,7 @@ use sheet::{Components, Drawing, Tally, Wires};
 use symbol::Point;
 
 // What becomes of that which the square meets.
+// An enum and no closure: a closure needs three clauses in its place (what it asks, what it makes, that this is sound), and this one match.
 #[derive(Clone, Copy)]
 pub enum Act {
     Delete,
