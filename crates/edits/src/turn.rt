@@ -7,9 +7,9 @@ ghost use Rattle.parts.specs.Tables.{EachFits};
 ghost use Rattle.joints.specs.Tables.{sheet_of, Sound};
 ghost use Rattle.edits.specs.Making;
 
+use crate::Made;
 use crate::delete::settled;
 use crate::place::split_at_pads;
-use crate::Made;
 use parts::insert::insert_part;
 use parts::square::{hit_contacts, keep_unhit};
 use parts::touch::touches_any;

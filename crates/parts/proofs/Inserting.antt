@@ -46,5 +46,5 @@ module _ {A : Type 0} (n : ℕ) (z : A) where
   carry_end {m = m} {i} {rows} {x} c e b =
       let size = long_rows c.holds in
       let last : take i rows ++ (x ∷ drop i (take m rows)) ≡ take m rows ++ (x ∷ []) =
-          ap (λ l. take i rows ++ (x ∷ l)) (rows_past rows m i (omega arith) (omega arith)) ∙ ap (λ j. take j rows ++ (x ∷ [])) e in
+      ap (λ l. take i rows ++ (x ∷ l)) (rows_past rows m i (omega arith) (omega arith)) ∙ ap (λ j. take j rows ++ (x ∷ [])) e in
       holds_as (sym last ∙ c.same) (holds_push x c.holds b)

@@ -40,7 +40,7 @@ module _ (points : List Point) {i : ℕ} {t r : Wires} (d : Point) (c : Cut (tak
   cut_full k ws h =
       let more = split_all_no_shorter (drop (i + 1) points) (split_all (take (i + 1) points) ws) in
       let whole : split_all (drop (i + 1) points) (split_all (take (i + 1) points) ws) ≡ split_all points ws =
-          sym (split_all_append (take (i + 1) points) (drop (i + 1) points) ws) ∙ ap (λ (ps : List Point). split_all ps ws) (take-append-drop (i + 1) points) in
+      sym (split_all_append (take (i + 1) points) (drop (i + 1) points) ws) ∙ ap (λ (ps : List Point). split_all ps ws) (take-append-drop (i + 1) points) in
       omega (arith, more, ap length whole, ap length (one_more ws h))
 
 -- ---- one answer

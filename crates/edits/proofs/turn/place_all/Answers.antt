@@ -48,15 +48,26 @@ loop-h-preserved g c =
     let fit = c.requires.sound.1.0 _ (get_in _ _ _ c.loop-h-test.true) in
     let i = c.loop-h.invariant in
     elim c.if-touches_any.branch [
-      | then-touches_any w ↦ (rw w.parts-is (omega (arith, i.0)), rw w.lost-is (omega (arith, i.1)), rw w.parts-is i.2, rw w.parts-is i.3, λ f h.
-          let t = sym (rw c.in_use.ensures at c.touches_any.ensures) ∙ w.if-touches_any.true in
-          rw (w.wires-is, w.parts-is, w.lost-is) (placing_lost (i.4 f h) _ _ (h _ _ fit c.alter-c.ensures) c.loop-h-test.true t))
+      | then-touches_any w ↦ (
+        rw w.parts-is (omega (arith, i.0)),
+        rw w.lost-is (omega (arith, i.1)),
+        rw w.parts-is i.2,
+        rw w.parts-is i.3,
+        λ f h.
+            let t = sym (rw c.in_use.ensures at c.touches_any.ensures) ∙ w.if-touches_any.true in
+            rw (w.wires-is, w.parts-is, w.lost-is) (placing_lost (i.4 f h) _ _ (h _ _ fit c.alter-c.ensures) c.loop-h-test.true t),
+      )
       | else-touches_any+in-Ok w ↦
-          let n = insert_count _ i.2 w.insert_part-parts.ensures in
-          (rw w.parts-is (omega (arith, i.0, n)), rw w.lost-is (omega (arith, i.1)), rw w.parts-is (holds_self w.insert_part-parts.ensures), rw w.parts-is (fits_more _ (c.requires.fits _ _ fit c.alter-c.ensures) i.3 w.insert_part-parts.ensures), λ f h.
-          let t = sym (rw c.in_use.ensures at c.touches_any.ensures) ∙ w.if-touches_any.false in
-          let s = subst (λ (r : Result Wires NoRoom). Splits (pads c.alter-c.result) c.loop-h.wires r) w.in-Ok.is w.split_at_pads.ensures in
-          rw (w.wires-is, w.parts-is, w.lost-is) (placing_placed (i.4 f h) _ _ (h _ _ fit c.alter-c.ensures) c.loop-h-test.true t s w.insert_part-parts.ensures))
+          let n = insert_count _ i.2 w.insert_part-parts.ensures in (
+            rw w.parts-is (omega (arith, i.0, n)),
+            rw w.lost-is (omega (arith, i.1)),
+            rw w.parts-is (holds_self w.insert_part-parts.ensures),
+            rw w.parts-is (fits_more _ (c.requires.fits _ _ fit c.alter-c.ensures) i.3 w.insert_part-parts.ensures),
+            λ f h.
+                let t = sym (rw c.in_use.ensures at c.touches_any.ensures) ∙ w.if-touches_any.false in
+                let s = subst (λ (r : Result Wires NoRoom). Splits (pads c.alter-c.result) c.loop-h.wires r) w.in-Ok.is w.split_at_pads.ensures in
+                rw (w.wires-is, w.parts-is, w.lost-is) (placing_placed (i.4 f h) _ _ (h _ _ fit c.alter-c.ensures) c.loop-h-test.true t s w.insert_part-parts.ensures),
+          )
     ]
 
 pub returns : goal.returns
