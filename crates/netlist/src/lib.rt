@@ -16,7 +16,7 @@ use net_numbers::pad_numbers;
 use sheet::Drawing;
 use text::Written;
 
-// A reply, and the number of loose pads.
+// A reply, and the number of loose pads. (No Result: `loose_unlawful` tells a count beside a refusal.)
 #[derive(Clone, Copy)]
 pub struct LooseCount {
     pub reply: u8,

@@ -1,5 +1,6 @@
 // Bytes put into a lent buffer. A `put_..` function writes what fits and tells the index behind all that it was to write:
-// so a first run over a byte of one's own tells the length of a text.
+// so a first run over a byte of one's own tells the length of a text. (`out` and `at` are no struct with methods: `Put old at bytes new next`
+// speaks of the two alone, and each clause of the callers would be as long over a struct's fields before and after.)
 #![tactic(auto)]
 
 ghost use Rattle.std.specs.Prelude.{◌≡◌, [], ◌∷◌};
