@@ -21,8 +21,7 @@ pub fn column(x: u16) -> usize
     0
 }
 
-// The joint rows by column, from the last row down: a `for` over the rows in reverse hands its proof no row number.
-// What stands first in a column is only where to look: that none is passed over is what counts.
+// The joint rows by column, from the last row down. What stands first in a column is only where to look: that none is passed over is what counts.
 pub fn by_column(js: &[Joint]) -> Columns
     requires { length js.now ≤ 1408 }
     ensures { Chained js.now (length js.now) result.next }
@@ -31,13 +30,10 @@ pub fn by_column(js: &[Joint]) -> Columns
         first: [1408; 12001],
         next: [1408; 1408],
     };
-    let mut k = js.len();
-    while 0 < k {
-        let m = k - 1;
+    for m in (0..js.len()).rev() {
         let c = column(js[m].x);
         out.next[m] = out.first[c];
         out.first[c] = m as u16;
-        k = m;
     }
     out
 }
