@@ -262,15 +262,15 @@ fn line(rt: &impl Print, d: Drawing, text: &[u8], out: &mut [u8]) -> io::Result<
     put(rt, text)?;
     let s = step(d, text, NINES, out);
     put(rt, b"\nstep")?;
-    put_count(rt, s.reply as u32)?;
-    put_count(rt, s.hit)?;
-    put_count(rt, s.lost)?;
+    let e = s.edited;
+    put_count(rt, u32::from(e.reply))?;
+    put_count(rt, e.hit)?;
+    put_count(rt, e.lost)?;
     put_length(rt, s.length)?;
     put(rt, b"\n")?;
     put(rt, out)?;
     put(rt, b"\n")?;
-    let t = s.tally;
-    put_tally(rt, t)
+    put_tally(rt, e.tally)
 }
 
 // "Order: 10, 9, ..": lines on a drawing that is not lawful, in a buffer of 9 bytes.

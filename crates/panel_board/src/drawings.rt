@@ -87,13 +87,11 @@ pub(crate) fn full_wires() -> Drawing {
     let none = joint(0, 0, 0);
     let mut ws = [NO_WIRE; 512];
     let mut js = [none; 1408];
-    let mut y: u16 = 0;
-    while y < 512 {
+    for y in 0..512u16 {
         let i = y as usize;
         ws[i] = wire(false, y + 6000, 5800, 5810);
         js[2 * i] = joint(5800, y + 6000, 1);
         js[2 * i + 1] = joint(5810, y + 6000, 1);
-        y += 1;
     }
     let rows = Wires {
         rows: ws,
@@ -112,14 +110,12 @@ pub(crate) fn full_parts() -> Drawing {
     let part = component(0, 0, 0, 0);
     let mut cs = [part; 128];
     let mut js = [none; 1408];
-    let mut k: u16 = 0;
-    while k < 128 {
+    for k in 0..128u16 {
         let i = k as usize;
         let x = k % 16 * 200 + 6000;
         let y = k / 16 * 200 + 6000;
         cs[i] = component(0, 0, x, y);
         js[i] = joint(x, y, 1);
-        k += 1;
     }
     Drawing {
         wires: wires(NO_WIRE, NO_WIRE, 0),
@@ -138,13 +134,11 @@ pub(crate) fn full_parts() -> Drawing {
 pub(crate) fn full() -> Drawing {
     let none = label_of(b"");
     let mut d = full_wires();
-    let mut k: u16 = 0;
-    while k < 128 {
-        let x = (k % 16 * 200) as i32;
-        let y = (k / 16 * 200) as i32;
+    for k in 0..128i32 {
+        let x = k % 16 * 200;
+        let y = k / 16 * 200;
         let e = add_component(d, 0, 0, x, y, none, NO_TALLY);
         d = e.drawing;
-        k += 1;
     }
     d
 }

@@ -20,46 +20,37 @@ fn answer(rt: &impl Print, d: Drawing, t: Tally, line: &[u8], told: bool) -> io:
         return Ok(s);
     }
     put_front(rt, &out, s.length)?;
-    let first = if 0 < line.len() { line[0] } else { 0 };
-    if first == b'n' {
+    if line.starts_with(b"n") {
         put(rt, b".\n")?;
     } else {
-        let after = s.edited.drawing;
-        let sums = s.edited.tally;
-        put_drawing(rt, after, sums)?;
+        put_drawing(rt, s.edited.drawing, s.edited.tally)?;
     }
     Ok(s)
 }
 
-// The index of the end of the line that begins at an index.
-fn line_end(text: &[u8], at: usize) -> usize
-    requires { at ≤ length text.now }
-    ensures { (at ≤ result) × (result ≤ length text.now) }
+// How long the first line of a text is.
+fn line_end(text: &[u8]) -> usize
+    ensures { result ≤ length text.now }
 {
-    let mut i = at;
-    while i < text.len() {
-        if text[i] == b'\n' {
-            return i;
-        }
-        i += 1;
-    }
-    i
+    text.iter()
+        .position(|b| *b == b'\n')
+        .unwrap_or(text.len())
 }
 
 // All lines of a text, from a drawing on.
 fn lines(rt: &impl Print, d: Drawing, text: &[u8], told: bool) -> io::Result<Drawing> {
     let mut drawing = d;
     let mut tally = NO_TALLY;
-    let mut at: usize = 0;
-    while at < text.len() {
-        let end = line_end(text, at);
-        let s = answer(rt, drawing, tally, &text[at..end], told)?;
+    let mut rest = text;
+    while !rest.is_empty() {
+        let end = line_end(rest);
+        let s = answer(rt, drawing, tally, &rest[..end], told)?;
         drawing = s.edited.drawing;
         tally = s.edited.tally;
-        if end == text.len() {
+        if end == rest.len() {
             return Ok(drawing);
         }
-        at = end + 1;
+        rest = &rest[end + 1..];
     }
     Ok(drawing)
 }

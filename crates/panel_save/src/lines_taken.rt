@@ -24,10 +24,7 @@ pub struct State {
 fn next_line_number(n: u32) -> u32
     ensures { result ≡ next_line n }
 {
-    if n < u32::MAX {
-        return n + 1;
-    }
-    n
+    n.saturating_add(1)
 }
 
 // `line <n>: A <reply>`
