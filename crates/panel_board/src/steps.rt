@@ -32,9 +32,7 @@ fn answer(rt: &impl Print, d: Drawing, t: Tally, line: &[u8], told: bool) -> io:
 fn line_end(text: &[u8]) -> usize
     ensures { result ≤ length text.now }
 {
-    text.iter()
-        .position(|b| *b == b'\n')
-        .unwrap_or(text.len())
+    text.iter().position(|b| *b == b'\n').unwrap_or(text.len())
 }
 
 // All lines of a text, from a drawing on.
