@@ -16,7 +16,7 @@ use sheet::{Component, Wire};
 
 // A wire of the direction.
 #[tactic(auto, unfolding(saved::specs::Reading::take_wire, groups::specs::Taken::then))]
-fn read_wire(bytes: &[u8], at: usize, vertical: bool) -> Result<(Wire, usize), Refusal>
+pub fn read_wire(bytes: &[u8], at: usize, vertical: bool) -> Result<(Wire, usize), Refusal>
     ensures is { taken_at bytes.now result ≡ take_wire vertical (drop at bytes.now) }
     ensures inside { IfOk result (λ r. r.1 ≤ length bytes.now) }
 {
