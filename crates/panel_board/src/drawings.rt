@@ -134,9 +134,9 @@ pub(crate) fn full_parts() -> Drawing {
 pub(crate) fn full() -> Drawing {
     let none = label_of(b"");
     let mut d = full_wires();
-    for k in 0..128i32 {
-        let x = k % 16 * 200;
-        let y = k / 16 * 200;
+    for k in 0..128u16 {
+        let x = (k % 16 * 200) as i32;
+        let y = (k / 16 * 200) as i32;
         let e = add_component(d, 0, 0, x, y, none, NO_TALLY);
         d = e.drawing;
     }

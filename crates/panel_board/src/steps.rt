@@ -28,27 +28,35 @@ fn answer(rt: &impl Print, d: Drawing, t: Tally, line: &[u8], told: bool) -> io:
     Ok(s)
 }
 
-// How long the first line of a text is.
-fn line_end(text: &[u8]) -> usize
-    ensures { result ≤ length text.now }
+// The index of the end of the line that begins at an index.
+fn line_end(text: &[u8], at: usize) -> usize
+    requires { at ≤ length text.now }
+    ensures { (at ≤ result) × (result ≤ length text.now) }
 {
-    text.iter().position(|b| *b == b'\n').unwrap_or(text.len())
+    let mut i = at;
+    while i < text.len() {
+        if text[i] == b'\n' {
+            return i;
+        }
+        i += 1;
+    }
+    i
 }
 
 // All lines of a text, from a drawing on.
 fn lines(rt: &impl Print, d: Drawing, text: &[u8], told: bool) -> io::Result<Drawing> {
     let mut drawing = d;
     let mut tally = NO_TALLY;
-    let mut rest = text;
-    while !rest.is_empty() {
-        let end = line_end(rest);
-        let s = answer(rt, drawing, tally, &rest[..end], told)?;
+    let mut at: usize = 0;
+    while at < text.len() {
+        let end = line_end(text, at);
+        let s = answer(rt, drawing, tally, &text[at..end], told)?;
         drawing = s.edited.drawing;
         tally = s.edited.tally;
-        if end == rest.len() {
+        if end == text.len() {
             return Ok(drawing);
         }
-        rest = &rest[end + 1..];
+        at = end + 1;
     }
     Ok(drawing)
 }

@@ -24,7 +24,10 @@ pub struct State {
 fn next_line_number(n: u32) -> u32
     ensures { result ≡ next_line n }
 {
-    n.saturating_add(1)
+    if n < u32::MAX {
+        return n + 1;
+    }
+    n
 }
 
 // `line <n>: A <reply>`
