@@ -1,17 +1,11 @@
--- The walk over component rows: what the rows from one on answer is what the whole answers.
-use Prim.Native.Nat.{ℕ, suc, ◌+◌, ◌-◌, ◌≤◌, ◌<◌}
-use native.Mathlib.Nat.{add-zero}
-use native.Mathlib.Omega.{arith}
+-- The nested walk over component rows: what the rest of the rows answers is what the whole answers.
+use Prim.Native.Nat.{ℕ, ◌+◌, ◌≤◌, ◌<◌}
+use native.Mathlib.Numerals.{add-one}
 use mathlib.Core.Path.{◌≡◌, refl, sym, ap, ◌∙◌}
-use mathlib.Core.List.{List, [], ◌∷◌}
-use mathlib.Core.Bool.{Bool, true, false, not, cond}
-use lib.Dec.{ltb}
+use mathlib.Core.List.{List, ◌∷◌}
+use mathlib.Core.Bool.{Bool, true, false}
 use lib.ListN.{length, get_or, take, drop}
-use Rattle.std.proofs.Common.{Option, Some, None}
-use Rattle.std.specs.Prelude.{position}
-use Rattle.std.specs.List.{position_or_len}
-use Rattle.lists.proofs.Tests.{pass, same_test, ltb_reads, reads_as}
-use Rattle.lists.proofs.Pairing.{rows_behind, step_on, step_off}
+use Rattle.lists.proofs.Walks.{rows_from_lem, rows_past}
 use Rattle.symbol.specs.declared.Bounds.{Bounds}
 use Rattle.symbol.specs.Symbols.{touches_of}
 use Rattle.sheet.specs.declared.Component.{Component}
@@ -19,54 +13,48 @@ use Rattle.sheet.specs.Parts.{box, touches}
 use Rattle.rules.specs.Touching.{Touching, none}
 use Rattle.rules.specs.Check.{touching_one, touching_from}
 
--- row i touches the one at k behind it, or none
-abbrev pub told : ℕ → Option ℕ → Touching → Touching
-told i (Some k) other = record { found = true; first = i; second = i + 1 + k }
-told i None other = other
+-- the outer walk is at row i
+pub record Outer (l : List Component) (n i : ℕ) (whole : Touching) : Type 0 where
+  pub same : whole ≡ touching_from i (drop i (take n l))
 
-ltb_zero : (n : ℕ) → true ≡ ltb 0 (suc n)
-ltb_zero n = same_test (pass (omega arith)) (ltb_reads 0 (suc n))
+-- the inner walk is at row j, for row i, whose box is p
+pub record Inner (p : Bounds) (l : List Component) (n i j : ℕ) (whole : Touching) : Type 0 where
+  pub row : Component
+  pub box_is : p ≡ box row
+  pub same : whole ≡ touching_one i row j (drop j (take n l)) (touching_from (i + 1) (drop (i + 1) (take n l)))
 
--- one row more before the first that touches, by the test t of that row
-one_more : (t : Bool) (i j n l : ℕ) (other w : Touching) → w ≡ cond (ltb n l) (record { found = true; first = i; second = suc j + n }) other
-    → cond t (record { found = true; first = i; second = j }) w
-    ≡ cond (ltb (cond (not t) (1 + n) 0) (suc l)) (record { found = true; first = i; second = j + cond (not t) (1 + n) 0 }) other
-one_more true i j n l other w e = rw (← ltb_zero l, add-zero)
-one_more false i j n l other w e =
-    let k : j + (1 + n) ≡ suc j + n = omega arith in
-    let m : ltb n l ≡ ltb (1 + n) (suc l) = same_test (ltb_reads n l) (reads_as (λ h. omega arith, λ h. omega arith) (ltb_reads (1 + n) (suc l))) in
-    rw (k, ← m) e
+pub outer_start : (l : List Component) (n : ℕ) → Outer l n 0 (touching_from 0 (take n l))
+outer_start l n = record { same = refl }
 
--- the rows from j on, by where the first stands that touches b
-one_met : (i : ℕ) (b : Component) (j : ℕ) (cs : List Component) (other : Touching)
-    → touching_one i b j cs other ≡ cond (ltb (position_or_len (touches b) cs) (length cs)) (record { found = true; first = i; second = j + position_or_len (touches b) cs }) other
-unfolding touching_one
-one_met i b j [] other = refl
-one_met i b j (c ∷ cs) other = one_more (touches b c) i j (position_or_len (touches b) cs) (length cs) other _ (one_met i b (suc j) cs other)
+pub outer_in : {p : Bounds} {l : List Component} {n i : ℕ} {w : Touching} (d : Component) → Outer l n i w → p ≡ box (get_or l i d) → i < n → n ≤ length l → Inner p l n i (i + 1) w
+unfolding touching_from
+outer_in {p} {l} {n} {i} d s e h k =
+    let f : touching_from i (get_or l i d ∷ drop (i + 1) (take n l)) ≡ touching_one i (get_or l i d) (i + 1) (drop (i + 1) (take n l)) (touching_from (i + 1) (drop (i + 1) (take n l)))
+    = ap (λ (m : ℕ). touching_one i (get_or l i d) m (drop (i + 1) (take n l)) (touching_from m (drop (i + 1) (take n l)))) (sym (add-one i)) in
+    record { row = get_or l i d; box_is = e; same = s.same ∙ ap (touching_from i) (rows_from_lem l n i d h k) ∙ f }
 
--- the same, by what `position` gives
-by_position : (i : ℕ) (b : Component) (cs : List Component) (other : Touching) (r : Option ℕ) → r ≡ position (touches b) cs → touching_one i b (i + 1) cs other ≡ told i r other
-by_position i b cs other r e = one_met i b (i + 1) cs other ∙ go (ltb (position_or_len (touches b) cs) (length cs)) ∙ ap (λ q. told i q other) (sym e)
-  where
-    go : (t : Bool) → cond t (record { found = true; first = i; second = i + 1 + position_or_len (touches b) cs }) other ≡ told i (cond t (Some (position_or_len (touches b) cs)) None) other
-    go true = refl
-    go false = refl
-
-by_box : (p : Bounds) (b : Component) (cs : List Component) → p ≡ box b → position (λ c. touches_of p (box c)) cs ≡ position (touches b) cs
+touch_by_boxes : (p q : Bounds) (a b : Component) (t : Bool) → p ≡ box a → q ≡ box b → touches_of p q ≡ t → touches a b ≡ t
 unfolding touches
-by_box p b cs e = ap (λ q. position (λ c. touches_of q (box c)) cs) e
+touch_by_boxes p q a b t e f g = ap (λ (x : Bounds). touches_of x (box b)) (sym e) ∙ ap (λ (x : Bounds). touches_of p x) (sym f) ∙ g
 
--- row i of the rows, of box p, by what `position` gives of those behind it
-pub told_on : (p : Bounds) (cs : List Component) (i : ℕ) (b : Component) (r : Option ℕ) {w : Touching} → i < length cs → b ≡ get_or cs i b → p ≡ box b
-    → r ≡ position (λ c. touches_of p (box c)) (take (length cs - (i + 1)) (drop (i + 1) cs)) → w ≡ touching_from i (drop i cs) → w ≡ told i r (touching_from (i + 1) (drop (i + 1) cs))
-unfolding touching_from
-told_on p cs i b r h e q m s =
-    let rest = drop (i + 1) cs in
-    let n : suc i ≡ i + 1 = omega arith in
-    step_on (touching_from i) cs i b h e s
-    (ap (λ k. touching_one i b k rest (touching_from k rest)) n ∙ by_position i b rest (touching_from (i + 1) rest) r (m ∙ ap (position (λ c. touches_of p (box c))) (rows_behind cs (i + 1)) ∙ by_box p b rest q))
+pub inner_next : {p : Bounds} {l : List Component} {n i j : ℕ} {w : Touching} (d : Component) (q : Bounds) → Inner p l n i j w → q ≡ box (get_or l j d) → touches_of p q ≡ false → j < n → n ≤ length l → Inner p l n i (j + 1) w
+unfolding touching_one
+inner_next {p} {l} {n} {i} {j} d q s e t h k =
+    let rest = touching_from (i + 1) (drop (i + 1) (take n l)) in
+    let u = touch_by_boxes p q s.row (get_or l j d) false s.box_is e t in
+    record { row = s.row; box_is = s.box_is; same = s.same ∙ ap (λ (r : List Component). touching_one i s.row j r rest) (rows_from_lem l n j d h k) ∙ rw (u, add-one) }
 
--- no row is left
-pub told_off : (cs : List Component) (i : ℕ) {w : Touching} → length cs ≤ i → w ≡ touching_from i (drop i cs) → none ≡ w
+pub inner_stop : {p : Bounds} {l : List Component} {n i j : ℕ} {w : Touching} (d : Component) (q : Bounds) → Inner p l n i j w → q ≡ box (get_or l j d) → touches_of p q ≡ true → j < n → n ≤ length l → record { found = true; first = i; second = j } ≡ w
+unfolding touching_one
+inner_stop {p} {l} {n} {i} {j} d q s e t h k =
+    let rest = touching_from (i + 1) (drop (i + 1) (take n l)) in
+    let u = touch_by_boxes p q s.row (get_or l j d) true s.box_is e t in
+    sym (s.same ∙ ap (λ (r : List Component). touching_one i s.row j r rest) (rows_from_lem l n j d h k) ∙ rw u)
+
+pub inner_end : {p : Bounds} {l : List Component} {n i j : ℕ} {w : Touching} → Inner p l n i j w → n ≤ j → n ≤ length l → Outer l n (i + 1) w
+unfolding touching_one
+inner_end {p} {l} {n} {i} {j} s h k = record { same = s.same ∙ ap (λ (r : List Component). touching_one i s.row j r (touching_from (i + 1) (drop (i + 1) (take n l)))) (rows_past l n j h k) }
+
+pub outer_end : {l : List Component} {n i : ℕ} {w : Touching} → Outer l n i w → n ≤ i → n ≤ length l → none ≡ w
 unfolding touching_from
-told_off cs i h s = sym (step_off (touching_from i) cs i h s)
+outer_end {l} {n} {i} s h k = sym (s.same ∙ ap (touching_from i) (rows_past l n i h k))

@@ -1,30 +1,27 @@
 -- The pairs passed do not touch.
-use Rattle.std.proofs.Common.{ℕ, arith, sym, ◌+◌, List, [], get_or, subst}
-use Rattle.lists.specs.Lists.{◌∈◌}
-use Rattle.lists.proofs.Tables.{same_row}
-use Rattle.lists.proofs.Finding.{in_drop}
-use Rattle.lists.proofs.Pairing.{among, rows_behind}
-use Rattle.sheet.specs.declared.Component.{Component}
-use Rattle.rules.proofs.Pairs.{told_on, told_off}
+use Rattle.std.proofs.Common.{arith, sym, ◌∙◌, ap}
+use Rattle.lists.proofs.Finding.{get_in}
+use Rattle.rules.specs.Touching.{as_touching}
+use Rattle.rules.proofs.Pairs.{outer_end, outer_in, inner_end, inner_next, inner_stop}
 use Rattle.rules.proofs.boxes.first_touching.Goals as goal
 
--- row i
-abbrev row : List Component → ℕ → Component
-row cs i = get_or cs i (record { kind = 0; orientation = 0; x = 0; y = 0; label = [] })
+pub box_of-p-requires : goal.box_of-p-requires
+box_of-p-requires c = c.requires.1 _ (get_in _ _ _ c.walk-test.true)
 
-pub box_of-requires : goal.box_of-requires
-box_of-requires c = c.requires.1 _ (among c.args.cs.now c.loop-i.i _ (omega arith) (same_row c.args.cs.now c.loop-i.i _ _ (omega arith)))
+pub loop-j-init : goal.loop-j-init
+loop-j-init c = (c.walk.invariant.0, outer_in _ c.walk.invariant.1 c.box_of-p.ensures c.walk-test.true (omega arith))
 
-pub first_met-requires : goal.first_met-requires
-first_met-requires c = λ b m. c.requires.1 b (in_drop (c.loop-i.i + 1) c.args.cs.now (subst (λ l. b ∈ l) (rows_behind c.args.cs.now (c.loop-i.i + 1)) m))
+pub box_of-q-requires : goal.box_of-q-requires
+box_of-q-requires c = c.requires.1 _ (get_in _ _ _ c.loop-j-test.true)
 
-pub returns-in-Some : goal.returns-in-Some
-returns-in-Some c =
-    sym (told_on _ c.args.cs.now c.loop-i.i (row c.args.cs.now c.loop-i.i) _ (omega arith) (same_row c.args.cs.now c.loop-i.i _ _ (omega arith)) c.box_of.ensures c.in-Some.ensures c.loop-i.invariant)
+pub loop-j-preserved : goal.loop-j-preserved
+loop-j-preserved c = (c.loop-j.invariant.0, inner_next _ c.box_of-q.result c.loop-j.invariant.1 c.box_of-q.ensures (sym c.touches.ensures ∙ c.if-touches.false) c.loop-j-test.true (omega arith))
 
-pub loop-i-preserved : goal.loop-i-preserved
-loop-i-preserved c =
-    told_on _ c.args.cs.now c.loop-i.i (row c.args.cs.now c.loop-i.i) _ (omega arith) (same_row c.args.cs.now c.loop-i.i _ _ (omega arith)) c.box_of.ensures c.in_default.ensures c.loop-i.invariant
+pub walk-preserved : goal.walk-preserved
+walk-preserved c = (c.loop-j.invariant.0, inner_end c.loop-j.invariant.1 (omega arith) (omega arith))
 
-pub returns : goal.returns
-returns c = told_off _ c.loop-i.i (omega arith) c.loop-i.invariant
+pub returns-after-walk : goal.returns-after-walk
+returns-after-walk c = ap as_touching c.walk.invariant.0 ∙ outer_end c.walk.invariant.1 (omega arith) (omega arith)
+
+pub returns-then-touches : goal.returns-then-touches
+returns-then-touches c = inner_stop _ c.box_of-q.result c.loop-j.invariant.1 c.box_of-q.ensures (sym c.touches.ensures ∙ c.if-touches.true) c.loop-j-test.true (omega arith)
