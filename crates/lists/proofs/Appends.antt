@@ -42,10 +42,6 @@ module _ {A : Type 0} where
     insert_skip (z ∷ xs) ys h = let ih = insert_skip xs ys (λ y m. h y (∈-tail m)) in
         choose (r z) (λ l. l ≡ z ∷ (xs ++ insert f x ys)) (λ p. absurd (h z (∈-head refl) p)) (λ n. ap {B = List A} (λ l. z ∷ l) ih)
 
-    pub insert_stop : (y : A) (ys : List A) → P y → insert f x (y ∷ ys) ≡ x ∷ y ∷ ys
-    unfolding insert
-    insert_stop y ys p = choose (r y) (λ l. l ≡ x ∷ y ∷ ys) (λ s. refl) (λ n. absurd (n p))
-
   -- ---- lengths
 
   pub length_gather : {B : Type 0} (f : A → List B) → ((x : A) → length (f x) ≤ 3) → (xs : List A) → length (flat_map f xs) ≤ 3 * length xs

@@ -6,9 +6,8 @@ use mathlib.Core.Bool.{Bool, true, false, cond, not, ◌&&◌, ◌||◌}
 use mathlib.Core.List.Memᴰ.{head as ∈-head}
 use mathlib.Core.List.Memᴰ.{tail as ∈-tail}
 use mathlib.Core.List.{List, [], ◌∷◌}
-use mathlib.Core.Logic.{⊎_elim}
-use mathlib.Core.Path.{◌≡◌, refl, sym, ap, subst, ◌∙◌}
-use borrow.Author.Tests.{ltb-true, eqb-true, lt-ltb, eq-eqb}
+use mathlib.Core.Path.{◌≡◌, refl, sym, ap, subst}
+use borrow.Author.Tests.{ltb-true}
 use lib.Dec.{ltb, eqb}
 use lib.ListN.{length, get_or, take}
 use lib.Seq.{length-take-le}
@@ -16,8 +15,8 @@ use Rattle.lists.specs.Lists.{◌∈◌}
 use Rattle.std.specs.List.{list_any}
 use Rattle.lists.specs.Span.{span}
 use Rattle.lists.specs.First.{FirstAt, now, next, first_row}
-use Rattle.lists.proofs.Tests.{Reads, pass, fail, decide, same_test, eqb_reads, ltb_reads, both, clash}
-use Rattle.lists.proofs.Walks.{Searched, span_start, span_next, span_stop, span_end}
+use Rattle.lists.proofs.Tests.{Reads, pass, fail, same_test, ltb_reads, both, clash}
+use Rattle.lists.proofs.Walks.{Searched, span_start, span_next}
 
 module _ {A : Type 0} (f : A → Bool) where
   pub first_reads : (xs : List A) → Reads (first_row f xs < length xs) (list_any f xs)
@@ -61,18 +60,6 @@ module _ {A : Type 0} {f : A → Bool} {l : List A} {n i row : ℕ} where
   module _ (d : A) (s : Sought f l n i row) (on : (ltb i n && eqb row n) ≡ true) (k : n ≤ length l) where
     pub sought_next : f (get_or l i d) ≡ false → Sought f l n (i + 1) row
     sought_next e = record { bound = s.bound; none_yet = λ q. span_next d (s.none_yet q) (ap not e) (sought_within i n (eqb row n) on) k; found = s.found }
-
-    pub sought_stop : f (get_or l i d) ≡ true → Sought f l n (i + 1) i
-    sought_stop e =
-        let h = sought_within i n (eqb row n) on in
-        let q = eqb-true row n (both (ltb i n) (eqb row n) on).1 in
-        record { bound = omega arith; none_yet = λ q. absurd (omega arith); found = λ _. span_stop d (s.none_yet q) (ap not e) h k }
-
-  pub sought_end : Sought f l n i row → (ltb i n && eqb row n) ≡ false → i ≤ n → n ≤ length l → row ≡ first_row f (take n l)
-  sought_end s e h k = ⊎_elim (λ (q : row ≡ n). q ∙ at_end q ∙ span_end (s.none_yet q) (omega (arith, at_end q)) k) (λ (g : row ≡ n → ⊥). s.found (omega (arith, s.bound))) (decide (eqb_reads row n))
-    where
-      at_end : row ≡ n → n ≡ i
-      at_end q = ⊎_elim (λ (m : i < n). absurd (clash (rw (lt-ltb i n m, eq-eqb row n q)) e)) (λ (m : i < n → ⊥). omega arith) (decide (ltb_reads i n))
 
 -- a first row is one of the rows
 pub first_in : {A : Type 0} {P : A → Type 0} {xs : List A} {i : ℕ} → FirstAt P xs i → ((x : A) → x ∈ xs → P x → ⊥) → ⊥

@@ -7,11 +7,11 @@ use mathlib.Core.Path.{◌≡◌, refl, sym, ap, ◌∙◌, subst}
 use mathlib.Core.List.Memᴰ.{head as ∈-head}
 use mathlib.Core.List.Memᴰ.{tail as ∈-tail}
 use mathlib.Core.List.{List, [], ◌∷◌, ◌++◌, append-nil, map}
-use mathlib.Core.Bool.{Bool, true, false, ◌||◌, cond, true≢false}
+use mathlib.Core.Bool.{Bool, true, false, cond}
 use lib.ListN.{length, get_or, take, drop, length-append, take-append-drop}
 use lib.Seq.{take-suc, take-take}
 use Rattle.lists.specs.Lists.{◌∈◌}
-use Rattle.std.specs.List.{list_any, filter, flat_map}
+use Rattle.std.specs.List.{filter, flat_map}
 use Rattle.lists.proofs.Appends.{keep_append, gather_append}
 
 module _ {A : Type 0} where
@@ -41,14 +41,6 @@ module _ {A : Type 0} where
       step : (b : Bool) → flat_map (only f) xs ≡ filter f xs → cond b (x ∷ []) [] ++ flat_map (only f) xs ≡ cond b (x ∷ filter f xs) (filter f xs)
       step true e = ap {B = List A} (λ l. x ∷ l) e
       step false e = e
-
-  pub keep_nothing : (f : A → Bool) (xs : List A) → list_any f xs ≡ false → filter f xs ≡ []
-  keep_nothing f [] e = refl
-  keep_nothing f (x ∷ xs) e = step (f x) (keep_nothing f xs) e
-    where
-      step : (b : Bool) → (list_any f xs ≡ false → filter f xs ≡ []) → (b || list_any f xs) ≡ false → cond b (x ∷ filter f xs) (filter f xs) ≡ []
-      step true ih e = absurd (true≢false e)
-      step false ih e = ih e
 
   -- ---- what a pass gathers
 

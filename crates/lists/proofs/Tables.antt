@@ -7,7 +7,7 @@ use mathlib.Core.Path.{◌≡◌, refl, sym, ap, ap₂, ◌∙◌, subst}
 use mathlib.Core.List.Memᴰ.{head as ∈-head}
 use mathlib.Core.List.Memᴰ.{not-nil as ∈-nil}
 use mathlib.Core.List.Memᴰ.{tail as ∈-tail}
-use mathlib.Core.List.{List, [], ◌∷◌, ◌++◌, map, append_assoc}
+use mathlib.Core.List.{List, [], ◌∷◌, ◌++◌, map}
 use lib.ListN.{length, get_or, take, drop, set, replicate, length-append, length-replicate, take-append-drop, length-drop, length-set, length-map}
 use lib.Seq.{get_or-set_same, get_or-set_other, set-append_seam, set-append_left, append_snoc, take-append_seam, drop-append_seam, length-take-le}
 use Rattle.lists.specs.Lists.{◌∈◌}
@@ -65,10 +65,6 @@ module _ {A : Type 0} where
   pub holds_count : {n : ℕ} {z : A} {xs rows : List A} {count : ℕ} → Holds n z xs rows count → count ≤ n
   holds_count h = let a = h.count_is in let b = h.room in omega arith
 
-  -- two tables that hold one list are one table
-  pub holds_same : {n : ℕ} {z : A} {xs r s : List A} {c d : ℕ} → Holds n z xs r c → Holds n z xs s d → (r ≡ s) × (c ≡ d)
-  holds_same h k = (h.rows_are ∙ sym k.rows_are, h.count_is ∙ sym k.count_is)
-
   -- ---- rows stored
 
   pub holds_none : (n : ℕ) (z : A) → Holds n z [] (replicate n z) 0
@@ -95,14 +91,6 @@ module _ {A : Type 0} where
         count_is = ap (λ (k : ℕ). k + 1) h.count_is ∙ sym (length_snoc xs x);
         room = simp length_snoc (omega arith);
       }
-
-  -- two rows more
-  pub holds_push_two : {n : ℕ} {z : A} {xs rows : List A} {count : ℕ} (x y : A) → Holds n z xs rows count → count + 1 < n
-      → Holds n z (xs ++ (x ∷ y ∷ [])) (set (set rows count x) (count + 1) y) (count + 2)
-  holds_push_two {n} {z} {xs} {rows} {count} x y h b =
-      let two : count + 1 + 1 ≡ count + 2 = omega arith in
-      let one : count < n = omega arith in
-      rw (← two) (holds_as (append_assoc xs (x ∷ []) (y ∷ [])) (holds_push y (holds_push x h one) b))
 
   -- a row of those in use is replaced
   pub holds_set : {n : ℕ} {z : A} {xs rows : List A} {count : ℕ} (k : ℕ) (x : A) → Holds n z xs rows count → k < count → Holds n z (set xs k x) (set rows k x) count
