@@ -93,9 +93,6 @@ module _ (p : Point) (size : ℕ) {ws wires : Wires} {cs hs parts : Components} 
   pub turned_sound : Sound wires parts
   turned_sound = record { wires = holds_self m; parts = holds_self b; fits = kept_fits (λ c. not (hits p size c)) s.fits.each b }
 
-  pub turned_hits : PartsFit hs
-  turned_hits = kept_fits (hits p size) s.fits.each a
-
   pub turned_room : parts.count + hs.count ≤ 128
   turned_room = omega (arith, length_parts (hits p size) (component_rows cs), a.count_is, b.count_is, s.parts.room)
 

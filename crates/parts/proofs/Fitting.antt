@@ -21,10 +21,6 @@ use Rattle.sheet.specs.Parts.{PartFits, ahead, reoriented}
 use Rattle.sheet.specs.Drawings.{component_rows}
 use Rattle.parts.specs.Tables.{TabledParts, PartsFit}
 
--- a row in use meets the limits
-pub row_fits : {t : Components} {i : ℕ} (d : Component) → PartsFit t → length t.rows ≡ 128 → i < t.count → PartFits (get_or t.rows i d)
-row_fits {t} {i} d h e b = h.each (get_or t.rows i d) (row_in t.rows t.count i d b (omega (arith, h.room)))
-
 -- a component with the orientation that a turn gives, which is no refusal
 module _ (f : List ℕ) (c : Component) (h : PartFits c) (t : Result ℕ Refusal) (e : turn_answered t ≡ turned_by f c.orientation) where
   pub turned_ok : IsOk t

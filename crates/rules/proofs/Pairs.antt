@@ -23,9 +23,6 @@ pub record Inner (p : Bounds) (l : List Component) (n i j : ℕ) (whole : Touchi
   pub box_is : p ≡ box row
   pub same : whole ≡ touching_one i row j (drop j (take n l)) (touching_from (i + 1) (drop (i + 1) (take n l)))
 
-pub outer_start : (l : List Component) (n : ℕ) → Outer l n 0 (touching_from 0 (take n l))
-outer_start l n = record { same = refl }
-
 pub outer_in : {p : Bounds} {l : List Component} {n i : ℕ} {w : Touching} (d : Component) → Outer l n i w → p ≡ box (get_or l i d) → i < n → n ≤ length l → Inner p l n i (i + 1) w
 unfolding touching_from
 outer_in {p} {l} {n} {i} d s e h k =

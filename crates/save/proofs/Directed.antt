@@ -24,6 +24,3 @@ module _ (v : Bool) (ws : List Wire) (i : ℕ) (d : Wire) (h : i < length ws) wh
 
   pub not_of_it : beq (get_or ws i d).vertical v ≡ false → left v ws i ≡ left v ws (i + 1)
   not_of_it e = ap (λ l. flat_map wire_bytes (directed v l)) here ∙ (λ j. flat_map wire_bytes (cond (e j) (get_or ws i d ∷ directed v (drop (i + 1) ws)) (directed v (drop (i + 1) ws))))
-
-  pub of_it_room : beq (get_or ws i d).vertical v ≡ true → length (wire_bytes (get_or ws i d)) ≤ length (left v ws i)
-  of_it_room e = omega (arith, ap length (of_it e), length-append (wire_bytes (get_or ws i d)) (left v ws (i + 1)))

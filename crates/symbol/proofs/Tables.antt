@@ -62,9 +62,6 @@ mapping k n x y h s =
     (record { few = omega arith; sound = s; near = near_three (at 200 100) unused unused (near 200 100 tt tt) none none })
     k h
 
-pub shallow : (k : ℕ) → k ≤ 2 → depth k ≤ 150
-shallow = of_kinds (λ (k : ℕ). depth k ≤ 150) (omega arith) (omega arith) (omega arith)
-
 -- ---- the first n of a list, mapped
 module _ (f : Point → Point) (d : Point) where
   next : (i : ℕ) (l : List Point) → set (map_first f i l) i (f (get_or l i d)) ≡ map_first f (suc i) l

@@ -1,5 +1,5 @@
 -- Bytes put into a buffer, one run behind the other; what a loop has still to put; what a whole run leaves in a buffer that holds it.
-use mathlib.Core.Path.{◌≡◌, refl, sym, ap, ap₂, subst, ◌∙◌}
+use mathlib.Core.Path.{◌≡◌, sym, ap, ap₂, subst, ◌∙◌}
 use mathlib.Core.List.{List, [], ◌∷◌, ◌++◌}
 use Prim.Native.Nat.{ℕ, suc, ◌+◌, ◌≤◌}
 use native.Mathlib.Nat.{add-zero}
@@ -31,9 +31,6 @@ put_none {bs} d i e = record { bytes = ap (sets d i) (sym e); behind = omega (ar
 pub record Todo (new : List ℕ) (next : ℕ) (rest old : List ℕ) (at : ℕ) (bs : List ℕ) : Type 0 where
   pub bytes : sets new next rest ≡ sets old at bs
   pub behind : next + length rest ≡ at + length bs
-
-pub todo_all : (old : List ℕ) (at : ℕ) (bs : List ℕ) → Todo old at bs old at bs
-todo_all old at bs = record { bytes = refl; behind = refl }
 
 pub todo_step : {new new' rest xs ys old bs : List ℕ} {next next' at : ℕ} → Todo new next rest old at bs → rest ≡ xs ++ ys → Put new next xs new' next' → Todo new' next' ys old at bs
 todo_step {new} {new'} {rest} {xs} {ys} {old} {bs} {next} {next'} {at} t e p = record {
