@@ -53,15 +53,13 @@ fn built(whats: &[u8], numbers: &[i32], count: u32) -> Drawing
     ensures { result ≡ built_by whats.now numbers.now count }
 {
     let mut d = empty_drawing();
-    let mut i: u32 = 0;
-    while i < count {
+    for i in 0..count {
         let n = i as usize;
         let what = byte_at(whats, n);
         let x = number_at(numbers, 3 * n);
         let y = number_at(numbers, 3 * n + 1);
         let z = number_at(numbers, 3 * n + 2);
         d = next(d, what, x, y, z);
-        i += 1;
     }
     d
 }
@@ -72,10 +70,8 @@ fn repeated(call: u8, d: Drawing, what: u8, x: i32, y: i32, z: i32, times: u32) 
     ensures { result ≡ again times (timed_answer call what x y z d) 0 }
 {
     let mut last: u32 = 0;
-    let mut k: u32 = 0;
-    while k < times {
+    for _ in 0..times {
         last = answer(call, d, what, x, y, z, last);
-        k += 1;
     }
     last
 }
