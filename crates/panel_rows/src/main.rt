@@ -121,8 +121,8 @@ fn finish<R, W: Write, E: Write>(
     false
 }
 
-// All that is read, up to the end of the input or a failure; and whether there was one. A proved loop has to end, and nothing says that the input does: it counts
-// its reads down, from a number that no input uses up.
+// All that is read, up to the end of the input or a failure; and whether there was one. A proved loop has to end, and nothing says that
+// the input does: it reads at most a number of times that no input uses up.
 fn answer_all<R: Read, W: Write, E: Write>(
     streams: &mut Streams<R, W, E>,
     chunk: &mut [u8],
@@ -134,9 +134,7 @@ fn answer_all<R: Read, W: Write, E: Write>(
 {
     let mut d = empty_drawing();
     let mut count = 0;
-    let mut reads = u64::MAX;
-    while reads > 0 {
-        reads -= 1;
+    for _ in 0..u64::MAX {
         match read_chunk(streams, chunk) {
             Got::Bytes(n) => {
                 let r = answer_chunk(streams, d, &chunk[..n], held, count, out);

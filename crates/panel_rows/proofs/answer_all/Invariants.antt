@@ -5,9 +5,6 @@ use lib.ListN.{length}
 use Rattle.sheet.specs.Rules.{Lawful}
 use Rattle.panel_rows.proofs.answer_all.Given as goal
 
-abbrev pub invariant-loop-reads : goal.invariant-loop-reads
-invariant-loop-reads g l =
+abbrev pub invariant-loop : goal.invariant-loop
+invariant-loop g l =
     Lawful l.d × (l.count ≤ 81) × (length l.chunk ≡ length l.initial.chunk) × (length l.held ≡ length l.initial.held) × (length l.out ≡ length l.initial.out)
-
-abbrev pub decreases-loop-reads : goal.decreases-loop-reads
-decreases-loop-reads g l = l.reads
