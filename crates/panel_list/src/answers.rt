@@ -55,6 +55,7 @@ pub(crate) fn take_lines(
     let mut at = 0;
     let mut count = begun;
     let mut used = 0;
+    // No iterator gives this index: `lines::next_line` tells where the chunk goes on.
     while at < chunk.len() {
         if out.len() - used < 8192 {
             return Taken {

@@ -47,6 +47,7 @@ fn answer<R, W: Write, E: Write>(
     let mut count = begun;
     let mut sum = before;
     let mut at = 0;
+    // No iterator gives this index: `take_lines` tells how far the room for what is printed went.
     while at < chunk.len() {
         let t = take_lines(drawing, &chunk[at..], held, count, out);
         at += t.at;
@@ -117,8 +118,8 @@ fn failed(run: Run) -> Run
     }
 }
 
-// The lines of all that is read. A proved loop has to end, and nothing says that the input does: it counts its reads down, from a
-// number that no input uses up.
+// The lines of all that is read. A proved loop has to end, and nothing says that the input does: it reads at most a number of
+// times that no input uses up.
 fn read_lines<R: Read, W: Write, E: Write>(
     streams: &mut Streams<R, W, E>,
     chunk: &mut [u8],
@@ -136,9 +137,7 @@ fn read_lines<R: Read, W: Write, E: Write>(
         sum: 0,
         failed: false,
     };
-    let mut reads = u64::MAX;
-    while reads > 0 {
-        reads -= 1;
+    for _ in 0..u64::MAX {
         match read_chunk(streams, chunk) {
             Got::Bytes(n) => {
                 let drawing = run.drawing;
