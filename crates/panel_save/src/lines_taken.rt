@@ -31,6 +31,7 @@ fn next_line_number(n: u32) -> u32
 }
 
 // `line <n>: A <reply>`
+// Takes the reply as a number, since it prints the document's number.
 fn put_refusal(text: &mut [u8], n: u32, reply: u8) -> usize
     requires { reply ≡ 0 → ⊥ }
     ensures { Put text.old 0 (refusal_of n reply) text.new result × (result ≤ 40) }
@@ -43,6 +44,7 @@ fn put_refusal(text: &mut [u8], n: u32, reply: u8) -> usize
 }
 
 // A line that is not answered with 0 is told on standard error: the sum with it.
+// Takes the reply as a number, as `put_refusal` does.
 fn tell_refusal<R, W, E: Write>(streams: &mut Streams<R, W, E>, n: u32, reply: u8, told: u32) -> u32
     ensures { result ≡ sum_of told (refusal_of n reply) }
 {

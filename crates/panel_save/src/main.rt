@@ -52,6 +52,7 @@ fn take_chunk<R, W, E: Write>(
     let mut state = run.state;
     let mut count = run.count;
     let mut at = 0;
+    // No iterator gives this index: `lines::next_line` tells where the chunk goes on.
     while at < chunk.len() {
         match next_line(chunk, at, held, count) {
             Cut::Line { count: n, next } => {
@@ -87,8 +88,8 @@ fn failed(run: Run) -> Run
     }
 }
 
-// The lines of all that is read. A proved loop has to end, and nothing says that the input does: it counts its reads down, from a
-// number that no input uses up.
+// The lines of all that is read. A proved loop has to end, and nothing says that the input does: it reads at most a number of
+// times that no input uses up.
 fn read_lines<R: Read, W: Write, E: Write>(
     streams: &mut Streams<R, W, E>,
     chunk: &mut [u8],
@@ -110,9 +111,7 @@ fn read_lines<R: Read, W: Write, E: Write>(
         count: 0,
         failed: false,
     };
-    let mut reads = u64::MAX;
-    while reads > 0 {
-        reads -= 1;
+    for _ in 0..u64::MAX {
         match read_chunk(streams, chunk) {
             Got::Bytes(n) => {
                 run = take_chunk(streams, run, &chunk[..n], held, out);

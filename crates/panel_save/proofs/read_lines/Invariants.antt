@@ -4,9 +4,6 @@ use lib.ListN.{length}
 use Rattle.panel_save.specs.Taking.{Read}
 use Rattle.panel_save.proofs.read_lines.Given as goal
 
-abbrev pub invariant-loop-reads : goal.invariant-loop-reads
-invariant-loop-reads g l =
+abbrev pub invariant-loop : goal.invariant-loop
+invariant-loop g l =
     Read l.run l.held × (length l.chunk ≡ length l.initial.chunk) × (length l.held ≡ length l.initial.held) × (length l.out ≡ length l.initial.out)
-
-abbrev pub decreases-loop-reads : goal.decreases-loop-reads
-decreases-loop-reads g l = l.reads
