@@ -8,6 +8,7 @@ use check_script::Said;
 use text::{put_byte, put_bytes, put_decimal};
 
 // `rule first second`
+// Takes the rule as a number, since it prints the document's number.
 pub fn put_checked(out: &mut [u8], at: usize, rule: u8, first: u16, second: u16) -> usize
     requires { at ≤ 900000 }
     ensures { Put out.old at (verdict_line rule first second) out.new result × (result ≤ at + 36) }

@@ -153,6 +153,7 @@ fn take_chunk<R, W: Write, E: Write>(
     let mut r = run;
     let mut at = 0;
     let mut count = begun;
+    // No iterator gives this index: `lines::next_line` tells where the chunk goes on.
     while at < chunk.len() {
         match lines::next_line(chunk, at, held, count) {
             Cut::Line { count: n, next } => {
@@ -227,8 +228,8 @@ fn failed(r: State) -> State
     State { failed: true, ..r }
 }
 
-// The lines of all that is read. A proved loop has to end, and nothing says that the input does: it counts its reads down, from a
-// number that no input uses up.
+// The lines of all that is read. A proved loop has to end, and nothing says that the input does: it reads at most a number of
+// times that no input uses up.
 fn read_lines<R: Read, W: Write, E: Write>(
     streams: &mut Streams<R, W, E>,
     chunk: &mut [u8],
@@ -248,9 +249,7 @@ fn read_lines<R: Read, W: Write, E: Write>(
         failed: false,
     };
     let mut count: usize = 0;
-    let mut reads = u64::MAX;
-    while reads > 0 {
-        reads -= 1;
+    for _ in 0..u64::MAX {
         match read_chunk(streams, chunk) {
             Got::Bytes(n) => {
                 let t = take_chunk(streams, r, &chunk[..n], held, count, out);

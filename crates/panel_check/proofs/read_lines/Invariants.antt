@@ -5,9 +5,6 @@ use lib.ListN.{length}
 use Rattle.panel_check.specs.Printing.{Read}
 use Rattle.panel_check.proofs.read_lines.Given as goal
 
-abbrev pub invariant-loop-reads : goal.invariant-loop-reads
-invariant-loop-reads g l =
+abbrev pub invariant-loop : goal.invariant-loop
+invariant-loop g l =
     Read (record { run = l.r; count = l.count }) l.held l.out × (l.r.failed ≡ false) × (length l.chunk ≡ length l.initial.chunk) × (length l.held ≡ length l.initial.held) × (length l.out ≡ length l.initial.out)
-
-abbrev pub decreases-loop-reads : goal.decreases-loop-reads
-decreases-loop-reads g l = l.reads
