@@ -53,8 +53,8 @@ fn read_frame<R: Read, W, E: Write>(
     }
 }
 
-// What is printed of each file. A proved loop has to end, and nothing says that the input does: it counts the files down, from a number that
-// no input uses up.
+// What is printed of each file. A proved loop has to end, and nothing says that the input does: it reads at most a number of files
+// that no input uses up.
 fn answer_all<R: Read, W: Write, E: Write>(
     streams: &mut Streams<R, W, E>,
     head: &mut [u8],
@@ -67,9 +67,7 @@ fn answer_all<R: Read, W: Write, E: Write>(
     ensures { Answers result }
 {
     let mut sum: u32 = 0;
-    let mut files = u64::MAX;
-    while files > 0 {
-        files -= 1;
+    for _ in 0..u64::MAX {
         let f = read_frame(streams, head, held);
         if f.failed | f.ended {
             return Output {

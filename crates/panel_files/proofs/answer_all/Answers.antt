@@ -4,24 +4,24 @@ use Rattle.streams.specs.Sums.{sum_of}
 use Rattle.panel_files.proofs.Summed.{summed_none, summed_next}
 use Rattle.panel_files.proofs.answer_all.Goals as goal
 
-pub loop-files-init : goal.loop-files-init
-loop-files-init g c = (c.requires.pair, c.requires.long, c.requires.room, summed_none)
+pub loop-init : goal.loop-init
+loop-init g c = (c.requires.pair, c.requires.long, c.requires.room, summed_none)
 
 pub returns-then-f : goal.returns-then-f
-returns-then-f g c = let s = c.loop-files.invariant.3 in record { files = s.files; all = λ _. s.is }
+returns-then-f g c = let s = c.loop.invariant.3 in record { files = s.files; all = λ _. s.is }
 
 pub returns-then-o : goal.returns-then-o
 returns-then-o g c =
-    let s = summed_next _ c.loop-files.invariant.3 (c.write_block-o.ensures.sum ∙ ap (sum_of _) c.show-k.ensures.bytes) in
+    let s = summed_next _ c.loop.invariant.3 (c.write_block-o.ensures.sum ∙ ap (sum_of _) c.show-k.ensures.bytes) in
     record { files = s.files; all = λ _. s.is }
 
-pub loop-files-preserved : goal.loop-files-preserved
-loop-files-preserved g c = (
+pub loop-preserved : goal.loop-preserved
+loop-preserved g c = (
   search rules,
   search rules,
   search rules,
-  summed_next _ c.loop-files.invariant.3 (c.write_block-o.ensures.sum ∙ ap (sum_of _) c.show-k.ensures.bytes),
+  summed_next _ c.loop.invariant.3 (c.write_block-o.ensures.sum ∙ ap (sum_of _) c.show-k.ensures.bytes),
 )
 
 pub returns : goal.returns
-returns g c = let s = c.loop-files.invariant.3 in record { files = s.files; all = λ _. s.is }
+returns g c = let s = c.loop.invariant.3 in record { files = s.files; all = λ _. s.is }

@@ -4,9 +4,6 @@ use lib.ListN.{length}
 use Rattle.panel_files.proofs.Summed.{Summed}
 use Rattle.panel_files.proofs.answer_all.Given as goal
 
-abbrev pub invariant-loop-files : goal.invariant-loop-files
-invariant-loop-files g l =
+abbrev pub invariant-loop : goal.invariant-loop
+invariant-loop g l =
     (2 ≡ length l.head) × (65536 ≡ length l.held) × (65536 ≡ length l.out) × Summed l.sum
-
-abbrev pub decreases-loop-files : goal.decreases-loop-files
-decreases-loop-files g l = l.files
