@@ -71,6 +71,7 @@ fn answer_chunk<R, W: Write, E: Write>(
     let mut d = drawing;
     let mut at = 0;
     let mut count = begun;
+    // No iterator gives this index: `lines::next_line` tells where the chunk goes on.
     while at < chunk.len() {
         match next_line(chunk, at, held, count) {
             Cut::Line { count: n, next } => {
