@@ -46,6 +46,7 @@ fn put_reply(rt: &impl Print, e: Edited, hits: bool) -> io::Result<()> {
 }
 
 // `A <reply> row <row>`
+// Takes the reply as a number, since it prints the document's number.
 pub(crate) fn put_row(rt: &impl Print, reply: u8, row: u16) -> io::Result<()> {
     put(rt, b"A")?;
     put_count(rt, reply as u32)?;
