@@ -4,3 +4,4 @@ mod Parts
 mod Rows
 pub mod Meaning
 mod Examples
+pub mod OneAnswer

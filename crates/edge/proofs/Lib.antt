@@ -1,3 +1,4 @@
 pub mod Whole
 pub mod Coordinates
 pub mod Sizes
+pub mod OneAnswer

@@ -1,3 +1,4 @@
 pub mod Making
 pub mod Steps
 pub mod Placing
+pub mod OneAnswer

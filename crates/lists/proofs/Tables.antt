@@ -65,6 +65,10 @@ module _ {A : Type 0} where
   pub holds_count : {n : ℕ} {z : A} {xs rows : List A} {count : ℕ} → Holds n z xs rows count → count ≤ n
   holds_count h = let a = h.count_is in let b = h.room in omega arith
 
+  -- two tables that hold one list are one table
+  pub holds_same : {n : ℕ} {z : A} {xs r s : List A} {c d : ℕ} → Holds n z xs r c → Holds n z xs s d → (r ≡ s) × (c ≡ d)
+  holds_same h k = (h.rows_are ∙ sym k.rows_are, h.count_is ∙ sym k.count_is)
+
   -- ---- rows stored
 
   pub holds_none : (n : ℕ) (z : A) → Holds n z [] (replicate n z) 0

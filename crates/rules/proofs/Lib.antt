@@ -4,3 +4,4 @@ pub mod Found
 pub mod Counted
 pub mod Pairs
 pub mod Answers
+pub mod OneAnswer

@@ -6,3 +6,4 @@ pub mod Room
 pub mod Digits
 pub mod Longer
 mod Examples
+pub mod OneAnswer
