@@ -16,13 +16,14 @@ use Rattle.wires.specs.Tables.{Tabled, Grows, Splits}
 
 -- ---- points one after another
 
--- r is what t is split at the points, whatever list t holds
+-- r is what t is split at the points, whatever list t holds, and has room where t has
 pub record Cut (ps : List Point) (t r : Wires) : Type 0 where
+  pub room : t.count ≤ 512 → r.count ≤ 512
   pub so : (ws : List Wire) → Tabled ws t → Tabled (split_all ps ws) r
 
 pub cut_none : (t : Wires) → Cut [] t t
 unfolding split_all
-cut_none t = record { so = λ ws h. h }
+cut_none t = record { room = λ k. k; so = λ ws h. h }
 
 module _ (points : List Point) {i : ℕ} {t r : Wires} (d : Point) (c : Cut (take i points) t r) (l : i < length points) where
   -- at one point more
@@ -33,7 +34,7 @@ module _ (points : List Point) {i : ℕ} {t r : Wires} (d : Point) (c : Cut (tak
       ∙ ap (λ (ps : List Point). split_all ps ws) (sym (take_more points i d l))
 
   pub cut_next : {s : Wires} → Tabled (split_at (get_or points i d) (wire_rows r)) s → Cut (take (i + 1) points) t s
-  cut_next {s} k = record { so = λ ws h. subst (λ (l : List Wire). Tabled l s) (one_more ws h) k }
+  cut_next {s} k = record { room = λ _. omega (arith, k.room, k.count_is); so = λ ws h. subst (λ (l : List Wire). Tabled l s) (one_more ws h) k }
 
   -- with no room for a list there is none for one that is split further
   pub cut_full : 512 < length (split_at (get_or points i d) (wire_rows r)) → (ws : List Wire) → Tabled ws t → 512 < length (split_all points ws)

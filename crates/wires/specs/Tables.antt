@@ -1,6 +1,6 @@
 -- Below the calls: tables of wires and of points, and what it means that one holds a list or has no room for it ("would hold over 512
 -- wires").
-use Rattle.std.specs.Prelude.{◌<◌, List, Result, MatchResult, length, take}
+use Rattle.std.specs.Prelude.{◌<◌, ◌≤◌, List, Result, MatchResult, IfOk, length, take}
 use Rattle.lists.specs.Tables.{Holds}
 use Rattle.symbol.specs.declared.Point.{Point}
 use Rattle.table.specs.declared.NoRoom.{NoRoom}
@@ -22,6 +22,8 @@ Tabled ws t = Holds 512 zero_wire ws t.rows t.count
 abbrev pub Grows : List Wire → Result Wires NoRoom → Type 0
 Grows ws g = MatchResult g (λ t. Tabled ws t) (λ _. 512 < length ws)
 
--- r is the table t split at each of the points: whatever list t holds
+-- r is the table t split at each of the points: whatever list t holds; where t has no more than 512 rows in use, whatever stands behind
+-- them, r has no more
 pub record Splits (ps : List Point) (t : Wires) (r : Result Wires NoRoom) : Type 0 where
+  pub room : t.count ≤ 512 → IfOk r (λ u. u.count ≤ 512)
   pub so : (ws : List Wire) → Tabled ws t → Grows (split_all ps ws) r

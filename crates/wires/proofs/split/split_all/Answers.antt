@@ -10,10 +10,10 @@ pub loop-p-init : goal.loop-p-init
 loop-p-init c = cut_none _
 
 pub returns-in_err-out : goal.returns-in_err-out
-returns-in_err-out c = record { so = λ ws h. MatchResult-from_err _ _ _ c.from_residual.ensures.0 (λ _. cut_full _ _ c.loop-p.invariant c.loop-p-test.true (rw c.in_use.ensures at c.in_err-out.ensures) ws h) }
+returns-in_err-out c = record { room = λ _. MatchResult-from_err _ _ _ c.from_residual.ensures.0 (λ _. tt); so = λ ws h. MatchResult-from_err _ _ _ c.from_residual.ensures.0 (λ _. cut_full _ _ c.loop-p.invariant c.loop-p-test.true (rw c.in_use.ensures at c.in_err-out.ensures) ws h) }
 
 pub loop-p-preserved : goal.loop-p-preserved
 loop-p-preserved c = cut_next _ _ c.loop-p.invariant c.loop-p-test.true (rw c.in_use.ensures at c.in_ok-out.ensures)
 
 pub returns : goal.returns
-returns c = record { so = λ ws h. rw (take_all c.loop-p.p-index c.args.points.now (omega arith)) at (c.loop-p.invariant.so ws h) }
+returns c = record { room = c.loop-p.invariant.room; so = λ ws h. rw (take_all c.loop-p.p-index c.args.points.now (omega arith)) at (c.loop-p.invariant.so ws h) }
