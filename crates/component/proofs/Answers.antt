@@ -24,10 +24,13 @@ use Rattle.symbol.specs.Symbols.{Offset, known_symbol, off, minus, applied, move
 use Rattle.symbol.specs.Replies.{granted, known_then_placed, symbol_reply, held_reply}
 use Rattle.symbol.specs.declared.Point.{Point}
 use Rattle.symbol.specs.declared.PadBlock.{PadBlock}
+use Rattle.symbol.specs.declared.PadsReply.{PadsReply}
 use Rattle.symbol.specs.declared.Bounds.{Bounds}
+use Rattle.symbol.specs.declared.BoundsReply.{BoundsReply}
+use Rattle.symbol.specs.Answers.{pads_for, pads_reply_of, bounds_for, aabb_of}
 use Rattle.symbol.proofs.Symbols.{refuse, tests_placeable}
 use Rattle.symbol.proofs.Exact.{near, high_near, exact}
-use Rattle.component.specs.Answers.{origin, position_of, PadsAnswer, BoxAnswer, answer, component_pads_of, spanned, no_box, component_box_of, held_of, shown_of}
+use Rattle.component.specs.Answers.{origin, position_of, PadsAnswer, BoxAnswer, answer, component_pads_of, spanned, no_box, component_box_of, held_of, shown_of, granted_reply}
 use Rattle.component.specs.declared.Position.{Position}
 use Rattle.component.proofs.Order.{coord_min, coord_max}
 
@@ -87,6 +90,52 @@ module _ (kind : ℕ) (o : ℕ) (x y : ℤ) where
           y = (h.in_y ∙ (λ j. held_back y (both_r (ranged 5800 x) (ranged 5800 y) p) j +ℤ (applied (eighth o) q).dy)) i;
         }
 
+-- ---- what the calls for pads and box of `symbol` tell of numbers of rows
+kept : (known placed : Bool) → granted_reply (known_then_placed known placed) ≡ known_then_placed known placed
+kept true true = refl
+kept true false = refl
+kept false true = refl
+kept false false = refl
+
+pads_reply : (n : ℕ) (p : PadBlock) → (pads_for n p).reply ≡ n
+pads_reply zero p = refl
+pads_reply (suc n) p = refl
+
+pads_told : (n : ℕ) (p : PadBlock) → 0 ≡ n → (pads_for n p).pads ≡ p
+pads_told zero p e = refl
+pads_told (suc n) p e = absurd (let z : ⊥ = omega arith in z)
+
+box_reply : (n : ℕ) (b : Bounds) → (bounds_for n b).reply ≡ n
+box_reply zero b = refl
+box_reply (suc n) b = refl
+
+box_told : (n : ℕ) (b : Bounds) → 0 ≡ n → (bounds_for n b).bounds ≡ b
+box_told zero b e = refl
+box_told (suc n) b e = absurd (let z : ⊥ = omega arith in z)
+
+module _ (kind o m n : ℕ) where
+  held_kept : granted_reply (held_reply kind o m n) ≡ held_reply kind o m n
+  unfolding held_reply
+  held_kept = kept (known_symbol kind o) (is_position m && is_position n)
+
+  module _ (a : PadsReply) (e : a ≡ pads_reply_of kind o m n) where
+    pub pads_granted : granted_reply a.reply ≡ held_reply kind o m n
+    unfolding pads_reply_of
+    pads_granted = ap granted_reply (ap (λ (r : PadsReply). r.reply) e ∙ pads_reply (held_reply kind o m n) (pad_block kind (eighth o) m n)) ∙ held_kept
+
+    pub pads_are : 0 ≡ held_reply kind o m n → a.pads ≡ pad_block kind (eighth o) m n
+    unfolding pads_reply_of
+    pads_are z = ap (λ (r : PadsReply). r.pads) e ∙ pads_told (held_reply kind o m n) (pad_block kind (eighth o) m n) z
+
+  module _ (a : BoundsReply) (e : a ≡ aabb_of kind o m n) where
+    pub box_granted : granted_reply a.reply ≡ held_reply kind o m n
+    unfolding aabb_of
+    box_granted = ap granted_reply (ap (λ (r : BoundsReply). r.reply) e ∙ box_reply (held_reply kind o m n) (bounds_at kind (eighth o) m n)) ∙ held_kept
+
+    pub box_is : 0 ≡ held_reply kind o m n → a.bounds ≡ bounds_at kind (eighth o) m n
+    unfolding aabb_of
+    box_is z = ap (λ (r : BoundsReply). r.bounds) e ∙ box_told (held_reply kind o m n) (bounds_at kind (eighth o) m n) z
+
 -- ---- the pads
 abbrev shown_pads : PadBlock → PadsAnswer
 shown_pads b = record {
@@ -132,11 +181,14 @@ module _ (kind : ℕ) (o : ℕ) (x y : ℤ) where
     answered_as : {A : Type 0} (f : ℕ → A) (a b : A) → (T (known_symbol kind o) → T (ranged 5800 x && ranged 5800 y) → b ≡ a) → 0 ≡ held_reply kind o m n → b ≡ granted (symbol_reply kind o x y) f a
     answered_as f a b h e = let t = granted_tests kind o x y (same_reply e) in h t.0 t.1 ∙ (λ i. granted (same_reply e i) f a)
 
-    pub pads_refused : (r : Refusal) → number_of r ≡ held_reply kind o m n → answer (number_of r) [] ≡ component_pads_of kind o x y
+    refused_pads : (r : Refusal) → number_of r ≡ held_reply kind o m n → answer (number_of r) [] ≡ component_pads_of kind o x y
     unfolding component_pads_of
-    pads_refused r e =
+    refused_pads r e =
         let a : PadsAnswer = answer 0 (map (position_of (eighth o) x y) (pads_at kind)) in
         refused_as (λ k. answer k []) a (number_of r) (refuses r) ∙ (λ i. granted (same_reply e i) (λ k. answer k []) a)
+
+    pub pads_refused : (r : Refusal) (a : PadsReply) → a ≡ pads_reply_of kind o m n → number_of r ≡ granted_reply a.reply → answer (number_of r) [] ≡ component_pads_of kind o x y
+    pads_refused r a ea e = refused_pads r (e ∙ pads_granted kind o m n a ea)
 
     pub pads_answered : (b : PadBlock) (p q s : Position) → 0 ≡ held_reply kind o m n → b ≡ pad_block kind (eighth o) m n
         → p ≡ shown_of (get_or b.points 0 unused) (ltb 0 b.count) → q ≡ shown_of (get_or b.points 1 unused) (ltb 1 b.count) → s ≡ shown_of (get_or b.points 2 unused) (ltb 2 b.count)
@@ -148,11 +200,14 @@ module _ (kind : ℕ) (o : ℕ) (x y : ℤ) where
         (λ k t. (λ i. record { reply = 0; points = ep i ∷ eq i ∷ es i ∷ []; count = b.count }) ∙ ap shown_pads (eb ∙ (λ i. block (is_x i) (is_y i))) ∙ pads_right kind o x y k t)
         e
 
-    pub box_refused : (r : Refusal) → number_of r ≡ held_reply kind o m n → no_box (number_of r) ≡ component_box_of kind o x y
+    refused_box : (r : Refusal) → number_of r ≡ held_reply kind o m n → no_box (number_of r) ≡ component_box_of kind o x y
     unfolding component_box_of
-    box_refused r e =
+    refused_box r e =
         let a : BoxAnswer = spanned (position_of (eighth o) x y (low_at kind)) (position_of (eighth o) x y (high_at kind)) in
         refused_as no_box a (number_of r) (refuses r) ∙ (λ i. granted (same_reply e i) no_box a)
+
+    pub box_refused : (r : Refusal) (a : BoundsReply) → a ≡ aabb_of kind o m n → number_of r ≡ granted_reply a.reply → no_box (number_of r) ≡ component_box_of kind o x y
+    box_refused r a ea e = refused_box r (e ∙ box_granted kind o m n a ea)
 
     pub box_answered : (b : Bounds) (p q : Position) → 0 ≡ held_reply kind o m n → b ≡ bounds_at kind (eighth o) m n → p ≡ shown_of b.low true → q ≡ shown_of b.high true
         → ◌≡◌ {A = BoxAnswer} (record { reply = 0; low = p; high = q }) (component_box_of kind o x y)

@@ -1,5 +1,5 @@
 -- The pads and the box of a component as document 01 has them, over whole numbers alone.
-use Rattle.std.specs.Prelude.{ℕ, Bool, cond, List, [], ◌∷◌, ◌++◌, map, ℤ, pos, ◌+ℤ◌, length, take, Result}
+use Rattle.std.specs.Prelude.{ℕ, Bool, cond, eqb, List, [], ◌∷◌, ◌++◌, map, ℤ, pos, ◌+ℤ◌, length, take, Result}
 use Rattle.std.specs.Int.Signed.{le_z}
 use Rattle.refusal.specs.declared.Refusal.{Refusal}
 use Rattle.refusal.specs.Numbers.{answered}
@@ -79,3 +79,7 @@ held_of z = cond (ranged 5800 z) (biased z) 0
 -- the coordinates of a point that is used, else zeros
 abbrev pub shown_of : Point → Bool → Position
 shown_of p used = cond used (record { x = coord_of p.x; y = coord_of p.y }) origin
+
+-- a reply of a symbol's call, which is 0, 4 or 1
+abbrev pub granted_reply : ℕ → ℕ
+granted_reply n = cond (eqb n 0) 0 (cond (eqb n 4) 4 1)

@@ -2,10 +2,11 @@
 #![tactic(auto)]
 
 ghost use Rattle.std.specs.Prelude.{◌≡◌};
-ghost use Rattle.component.specs.Answers.{pads_told, component_pads_of, box_told, component_box_of, held_of, shown_of};
+ghost use Rattle.refusal.specs.Numbers.{reply_of};
+ghost use Rattle.component.specs.Answers.{pads_told, component_pads_of, box_told, component_box_of, held_of, shown_of, granted_reply};
 
 use refusal::Refusal;
-use symbol::{Point, bounds_at, pads_at, placeable};
+use symbol::Point;
 
 // A point by its coordinates.
 #[derive(Clone, Copy)]
@@ -50,6 +51,19 @@ fn shown(p: Point, used: bool) -> Position
     }
 }
 
+// What a reply of `symbol` says: 0, or the refusal, which is 4 or 1.
+fn granted(reply: u8) -> Result<(), Refusal>
+    ensures { reply_of result ≡ granted_reply reply }
+{
+    if reply == 0 {
+        return Ok(());
+    }
+    if reply == 4 {
+        return Err(Refusal::UnknownSymbol);
+    }
+    Err(Refusal::CoordinateOutside)
+}
+
 // The pads of a component at (x, y), by their coordinates.
 #[tactic(auto, using(crate::proofs::Answers::pads_refused))]
 pub fn component_pads(kind: u8, orientation: u8, x: i32, y: i32) -> Result<Pads, Refusal>
@@ -57,8 +71,9 @@ pub fn component_pads(kind: u8, orientation: u8, x: i32, y: i32) -> Result<Pads,
 {
     let at_x = held(x);
     let at_y = held(y);
-    placeable(kind, orientation, at_x, at_y)?;
-    let b = pads_at(kind, orientation, at_x, at_y);
+    let r = symbol::pads(kind, orientation, at_x, at_y);
+    granted(r.reply)?;
+    let b = r.pads;
     let points = b.points;
     let count = b.count;
     let first = shown(points[0], 0 < count);
@@ -76,8 +91,9 @@ pub fn component_box(kind: u8, orientation: u8, x: i32, y: i32) -> Result<Corner
     ensures { box_told result ≡ component_box_of kind orientation x y }
 {
     let (at_x, at_y) = (held(x), held(y));
-    placeable(kind, orientation, at_x, at_y)?;
-    let b = bounds_at(kind, orientation, at_x, at_y);
+    let r = symbol::aabb(kind, orientation, at_x, at_y);
+    granted(r.reply)?;
+    let b = r.bounds;
     let low = shown(b.low, true);
     let high = shown(b.high, true);
     Ok(Corners { low, high })

@@ -1,12 +1,12 @@
 -- How the code's chains read a label: the leading part up to the first zero, the bytes behind those that a label may have, and zeros filled up.
 use mathlib.Core.Path.{◌≡◌, refl, sym, ap, ◌∙◌}
-use Prim.Native.Nat.{ℕ, zero, suc, ◌+◌, ◌<◌, ◌≤◌}
+use Prim.Native.Nat.{ℕ, zero, suc, ◌+◌, ◌-◌, ◌<◌, ◌≤◌}
 use native.Mathlib.Nat.{le_of_suc-le-suc}
 use native.Mathlib.Omega.{arith}
-use mathlib.Core.Bool.{Bool, true, false, ◌&&◌, cond}
+use mathlib.Core.Bool.{Bool, true, false, not, ◌&&◌, cond}
 use mathlib.Core.List.{List, [], ◌∷◌, ◌++◌}
 use lib.Dec.{leb, eqb}
-use lib.ListN.{length, take, drop, length-take}
+use lib.ListN.{length, take, drop, length-take, length-drop, drop_of_length-le}
 use lib.Seq.{take_all}
 use borrow.Author.Tests.{le-leb, lt-leb}
 use native.Mathlib.Numerals.{one-add}
@@ -32,6 +32,30 @@ behind (b ∷ bs) = go (graphic b) (behind bs)
     go : (t : Bool) → all_zero (drop (prefix_len graphic bs) bs) ≡ label_ok bs → all_zero (drop (cond t (1 + prefix_len graphic bs) 0) (b ∷ bs)) ≡ cond t (label_ok bs) (all_zero (b ∷ bs))
     go true e = simp one-add e
     go false e = refl
+
+not_not : (b : Bool) → not (not b) ≡ b
+not_not true = refl
+not_not false = refl
+
+-- the first byte that no label may have stands behind those that one may have
+other_is : (bs : List ℕ) → position_or_len (λ b. not (graphic b)) bs ≡ prefix_len graphic bs
+other_is bs = λ i. prefix_len (λ b. not_not (graphic b) i) bs
+
+pub to_first_other : (bs : List ℕ) (n : ℕ) → Some n ≡ position (λ b. not (graphic b)) bs → all_zero (take (length bs - n) (drop n bs)) ≡ label_ok bs
+to_first_other bs n e = ap all_zero (take_all (length bs - n) (drop n bs) (omega (arith, length-drop n bs))) ∙ go (ltb_reads (position_or_len (λ b. not (graphic b)) bs) (length bs)) e
+  where
+    go : {t : Bool} → Reads (position_or_len (λ b. not (graphic b)) bs < length bs) t → Some n ≡ cond t (Some (position_or_len (λ b. not (graphic b)) bs)) None → all_zero (drop n bs) ≡ label_ok bs
+    go (pass l) e = ap (λ k. all_zero (drop k bs)) (same_Some n (position_or_len (λ b. not (graphic b)) bs) e ∙ other_is bs) ∙ behind bs
+    go (fail f) e = absurd (none-some n (sym e))
+
+pub no_other : (bs : List ℕ) → None ≡ position (λ b. not (graphic b)) bs → true ≡ label_ok bs
+no_other bs e = go (ltb_reads (position_or_len (λ b. not (graphic b)) bs) (length bs)) e
+  where
+    go : {t : Bool} → Reads (position_or_len (λ b. not (graphic b)) bs < length bs) t → None ≡ cond t (Some (position_or_len (λ b. not (graphic b)) bs)) None → true ≡ label_ok bs
+    go (pass l) e = absurd (none-some (position_or_len (λ b. not (graphic b)) bs) e)
+    go (fail f) e =
+        let le : length bs ≤ position_or_len (λ b. not (graphic b)) bs = omega (arith, f) in
+        sym (ap all_zero (drop_of_length-le bs le)) ∙ ap (λ k. all_zero (drop k bs)) (other_is bs) ∙ behind bs
 
 -- ---- the leading part
 cut : (bs : List ℕ) → label_part bs ≡ take (position_or_len (λ b. eqb b 0) bs) bs

@@ -1,2 +1,3 @@
 pub mod Labels
 pub mod Accepted
+pub mod OneAnswer

@@ -1,8 +1,8 @@
 // Labels: as a caller gives them, as rows hold them, and as they come back.
 #![tactic(auto)]
 
-ghost use Rattle.std.specs.List.{list_all, position, prefix_len};
-ghost use Rattle.std.specs.Prelude.{◌≡◌, ◌==◌, drop};
+ghost use Rattle.std.specs.List.{list_all, position};
+ghost use Rattle.std.specs.Prelude.{◌≡◌, ◌==◌, not};
 ghost use Rattle.label.specs.Labels.{graphic, label_of, held_answer, held_label, label_part, label_ok, all_zero};
 
 use refusal::Refusal;
@@ -75,20 +75,27 @@ pub fn all_zero(bytes: &[u8]) -> bool
     bytes.iter().all(|b| *b == 0)
 }
 
-// Whether all bytes are zero behind the first ones, which a label may have.
-fn zeros_behind(bytes: &[u8]) -> bool
-    ensures { result ≡ all_zero (drop (prefix_len graphic bytes.now) bytes.now) }
+// The place of the first byte that no label may have.
+fn first_other(bytes: &[u8]) -> Option<usize>
+    ensures { result ≡ position (λ b. not (graphic b)) bytes.now }
 {
-    bytes
-        .iter()
-        .skip_while(|b| b.is_ascii_graphic())
-        .all(|b| *b == 0)
+    bytes.iter().position(|b| !b.is_ascii_graphic())
 }
 
-// Whether 16 bytes are a label: some from 0x21 to 0x7E, and then zeros.
-#[tactic(auto, using(crate::proofs::Labels::behind))]
+// Whether bytes are a label: some from 0x21 to 0x7E, and then zeros.
+#[tactic(auto, using(crate::proofs::Labels::to_first_other, crate::proofs::Labels::no_other))]
+fn bytes_ok(bytes: &[u8]) -> bool
+    ensures { result ≡ label_ok bytes.now }
+{
+    match first_other(bytes) {
+        Some(end) => all_zero(&bytes[end..]),
+        None => true,
+    }
+}
+
+// Whether 16 bytes are a label.
 pub fn label_ok(bytes: [u8; 16]) -> bool
     ensures { result ≡ label_ok bytes }
 {
-    zeros_behind(&bytes)
+    bytes_ok(&bytes)
 }
