@@ -31,9 +31,9 @@ pub fn place(ws: Wires, cs: Components, c: Component) -> Result<Made, Refusal>
     ensures { told result ≡ made (quiet (Edits.place_one c (sheet_of ws cs))) }
 {
     let n = cs.count;
+    let split = split_at_pads(ws, c);
     if n >= 128 {
         return Err(Refusal::TooManyComponents);
     }
-    let split = split_at_pads(ws, c);
     answer(split, insert_part(cs, c), 0, 0)
 }
