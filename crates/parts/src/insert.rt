@@ -17,6 +17,7 @@ fn ahead(b: Component, c: Component) -> bool
 }
 
 // The first row that c goes before.
+#[inline(always)]
 fn row_after(cs: &[Component], c: Component) -> Option<usize>
     ensures { result ≡ position (Parts.ahead c) cs.now }
 {

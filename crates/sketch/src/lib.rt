@@ -48,9 +48,18 @@ fn blank_drawing() -> Drawing
         count: 0,
     };
     Drawing {
-        wires: Table::empty(wire),
-        components: Table::empty(component),
-        joints: Table::empty(joint),
+        wires: Table {
+            rows: [wire; 512],
+            count: 0,
+        },
+        components: Table {
+            rows: [component; 128],
+            count: 0,
+        },
+        joints: Table {
+            rows: [joint; 1408],
+            count: 0,
+        },
     }
 }
 
