@@ -16,7 +16,6 @@ pub fn key(p: Point) -> u32
 }
 
 // The key of each joint, in row order.
-#[inline(always)]
 pub fn joint_keys(js: Joints) -> [u64; 1408]
     requires { js.count ≤ 1408 }
     ensures { KeysOf js result }

@@ -43,7 +43,6 @@ fn number_of(keys: &[u64; 1408], n: usize, p: Point) -> u16
 }
 
 // The wires by the numbers of the joints at their ends.
-#[inline(always)]
 fn links(ws: Wires, js: Joints) -> Links
     requires { (ws.count ≤ 512) × Jointed (ends (wire_rows ws)) js }
     ensures { LinksIn (joint_rows js) (wire_rows ws) result }
@@ -62,7 +61,6 @@ fn links(ws: Wires, js: Joints) -> Links
 }
 
 // Points by the numbers of their joints.
-#[inline(always)]
 fn joint_numbers(ps: Points, js: Joints) -> Pads
     requires { (ps.count ≤ 384) × Jointed (point_rows ps) js }
     ensures { PadsIn (joint_rows js) (point_rows ps) result }

@@ -104,8 +104,10 @@ fn take_line<R, W: Write, E: Write>(
     }
     let lines = next_number(r.lines);
     let said = read_line(line);
+    let s = r.sketch;
     if is_end(said) {
-        let w = answer(streams, r.sketch.drawing, r.used, out);
+        let d = s.drawing;
+        let w = answer(streams, d, r.used, out);
         let fresh = empty();
         return State {
             sketch: fresh,
@@ -116,7 +118,7 @@ fn take_line<R, W: Write, E: Write>(
             failed: w.failed,
         };
     }
-    let Some(sketch) = add(r.sketch, line, said) else {
+    let Some(sketch) = add(s, line, said) else {
         return State {
             begun: true,
             lines,

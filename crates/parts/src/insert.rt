@@ -17,7 +17,6 @@ fn ahead(b: Component, c: Component) -> bool
 }
 
 // The first row that c goes before.
-#[inline(always)]
 fn row_after(cs: &[Component], c: Component) -> Option<usize>
     ensures { result ≡ position (Parts.ahead c) cs.now }
 {

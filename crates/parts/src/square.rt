@@ -15,7 +15,6 @@ use symbol::{Bounds, Point};
 use wires::square::square;
 
 // The components that pass the test, in order.
-#[inline(always)]
 fn keep<F: Fn(Component) -> bool>(cs: &[Component], test: F) -> Components
     requires small { length cs.now ≤ 128 }
     requires callable { (c : Component) → c ∈ cs.now → F.pre test c }

@@ -17,7 +17,6 @@ pub struct NoRoom;
 
 impl<T, const N: usize> Table<T, N> {
     // The rows in use; all rows where the count is greater than their number.
-    #[inline(always)]
     pub fn in_use(&self) -> &[T]
         ensures { result.now ≡ rows_of self.now }
     {
@@ -30,7 +29,6 @@ impl<T, const N: usize> Table<T, N> {
 
 impl<T: Copy, const N: usize> Table<T, N> {
     // The table with no row in use, each row being `zero`.
-    #[inline(always)]
     pub fn empty(zero: T) -> Table<T, N>
         ensures { result ≡ table_of N zero [] }
     {
@@ -41,7 +39,6 @@ impl<T: Copy, const N: usize> Table<T, N> {
     }
 
     // One row more, where there is room.
-    #[inline(always)]
     pub fn push(&mut self, row: T)
         requires { self.old.count < N }
         ensures { self.new ≡ pushed row self.old }
@@ -51,7 +48,6 @@ impl<T: Copy, const N: usize> Table<T, N> {
     }
 
     // One row more, or the word that there is no room.
-    #[inline(always)]
     pub fn try_push(&mut self, row: T) -> Result<(), NoRoom>
         ensures { MatchResult result (λ _. (self.old.count < N) × (self.new ≡ pushed row self.old)) (λ _. (N ≤ self.old.count) × (self.new ≡ self.old)) }
     {
@@ -63,7 +59,6 @@ impl<T: Copy, const N: usize> Table<T, N> {
     }
 
     // The rows behind those in use, where there is room.
-    #[inline(always)]
     pub fn extend(&mut self, rows: &[T])
         requires { self.old.count + length rows.now ≤ N }
         ensures { Extends rows.now self.old self.new }
