@@ -49,7 +49,7 @@ fn joints_right(js: Joints, ws: &[Wire], pads: &[Point]) -> bool
 fn all_right(d: Drawing) -> bool
     ensures { result ≡ true → Lawful d }
 {
-    if !within_limits(d) {
+    if !within_limits(&d) {
         return false;
     }
     let ws = d.wires.in_use();

@@ -130,8 +130,8 @@ fn all_fit(d: &Drawing) -> bool
 // Rule 1 holds. Three wrong answers that this rules out: a wire past the edge of the range fits (rule_1_wire_past_the_edge), a joint row behind
 // the counts holds a count (rule_1_count_behind_the_counts), a component row there an orientation (rule_1_orientation_behind_the_counts).
 #[tactic(auto, unfolding(crate::specs::Limits::rooms, crate::specs::Limits::check1))]
-pub fn within_limits(d: Drawing) -> bool
-    ensures { result ≡ check1 d }
+pub fn within_limits(d: &Drawing) -> bool
+    ensures { result ≡ check1 d.now }
 {
-    in_rooms(&d) && (all_blank(&d) & all_fit(&d))
+    in_rooms(d) && (all_blank(d) & all_fit(d))
 }

@@ -81,7 +81,7 @@ fn check_boxes_and_joints(d: &Drawing, js: &[Joint]) -> Checked
 pub fn check_plainly(d: Drawing) -> Checked
     ensures { result ≡ check_of d }
 {
-    if !within_limits(d) {
+    if !within_limits(&d) {
         return broken_rule(1);
     }
     let ws = d.wires.in_use();
