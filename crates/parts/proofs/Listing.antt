@@ -5,8 +5,7 @@ use mathlib.Core.List.{List, [], ◌∷◌, ◌++◌}
 use mathlib.Core.Path.{◌≡◌, refl, sym, ap, subst, ◌∙◌}
 use lib.ListN.{length, take, get_or, set, replicate, length-append, length-set, length-take, length-replicate}
 use lib.Seq.{take-take, take-append_seam}
-use Rattle.lists.specs.Tables.{Holds}
-use Rattle.lists.proofs.Tables.{holds_list, length_pad}
+use Rattle.lists.proofs.Pushes.{three_of, take_three}
 use Rattle.orientation.specs.Orientations.{eighth}
 use Rattle.symbol.specs.declared.Point.{Point}
 use Rattle.symbol.specs.declared.PadBlock.{PadBlock}
@@ -27,14 +26,25 @@ pad_block_lem c e = subst (Block (pads c)) (sym e) (record {
   points_are = take-take (length (pads c)) 3 (pads c ++ (unused ∷ unused ∷ unused ∷ [])) (length_pads c) ∙ take-append_seam (pads c) (unused ∷ unused ∷ unused ∷ []);
 })
 
--- a table that holds the points lists them
-pub holds_points : {ps : List Point} {t : Points} → Holds 384 unused ps t.rows t.count → TabledPoints ps t
-holds_points {ps} h = record {
-  size = ap length h.rows_are ∙ length_pad 384 unused ps h.room;
-  room = omega (arith, h.count_is, h.room);
-  count_is = h.count_is;
-  points_are = holds_list h;
-}
+-- no component, no pad
+pub lists_none : TabledPoints [] (record { rows = replicate 384 unused; count = 0 })
+lists_none = record { size = length-replicate 384 unused; room = omega arith; count_is = refl; points_are = refl }
+
+-- a block behind the points listed: its three points are stored, and as many counted as it counts
+pub lists_block : {ps qs : List Point} {t : Points} {b : PadBlock} (z : Point) → TabledPoints ps t → Block qs b → t.count + 3 ≤ 384
+    → TabledPoints (ps ++ qs) (record { rows = set (set (set t.rows t.count (get_or b.points 0 z)) (t.count + 1) (get_or b.points 1 z)) (t.count + 2) (get_or b.points 2 z); count = t.count + b.count })
+lists_block {ps} {qs} {t} {b} z h k r =
+    let p = get_or b.points 0 z in
+    let q = get_or b.points 1 z in
+    let s = get_or b.points 2 z in
+    record {
+      size = length-set (set (set t.rows t.count p) (t.count + 1) q) (t.count + 2) s ∙ length-set (set t.rows t.count p) (t.count + 1) q ∙ length-set t.rows t.count p ∙ h.size;
+      room = omega (arith, k.room);
+      count_is = omega (arith, h.count_is, k.count_is, length-append ps qs);
+      points_are = take_three t.rows t.count b.count p q s (omega (arith, h.size)) k.room
+          ∙ ap (λ l. point_rows t ++ take b.count l) (sym (three_of b.points z k.size))
+          ∙ (λ i. h.points_are i ++ k.points_are i);
+    }
 
 -- a contact has three pads, every other component one
 pub other_kinds : (k : ℕ) → (k ≡ 1 → ⊥) → 1 ≡ length (pads_at k)

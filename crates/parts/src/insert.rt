@@ -29,8 +29,8 @@ pub fn insert_part(cs: Components, c: Component) -> Components
     ensures { TabledParts (insert Parts.ahead c (component_rows cs)) result }
 {
     let n = cs.count;
-    let from = row_after(cs.in_use(), c).unwrap_or(n);
     let mut out = cs;
+    let from = row_after(out.in_use(), c).unwrap_or(n);
     let mut carried = c;
     for i in from..n {
         let next = out.rows[i];

@@ -16,15 +16,24 @@ pub fn pads_of(c: Component) -> PadBlock
     pads_at(c.kind, c.orientation, c.x, c.y)
 }
 
-// The pads of all components, in row order.
+// The pads of all components, in row order. Of a block all three points are stored and as many counted as it counts, so that the next block
+// goes over the rest. `Table::extend` was tried: docs/DESIGN-PASS.md.
 pub fn all_pads(cs: &[Component]) -> Points
     requires { EachFits cs.now × (length cs.now ≤ 128) }
     ensures { TabledPoints (Parts.pads_of cs.now) result }
 {
-    let mut out = Points::empty(ZERO_POINT);
+    let mut out = Points {
+        rows: [ZERO_POINT; 384],
+        count: 0,
+    };
     for c in cs {
         let b = pads_of(*c);
-        out.extend(&b.points[..b.count]);
+        let ps = b.points;
+        let k = out.count;
+        out.rows[k] = ps[0];
+        out.rows[k + 1] = ps[1];
+        out.rows[k + 2] = ps[2];
+        out.count = k + b.count;
     }
     out
 }

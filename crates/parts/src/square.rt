@@ -20,7 +20,10 @@ fn keep<F: Fn(Component) -> bool>(cs: &[Component], test: F) -> Components
     requires callable { (c : Component) → c ∈ cs.now → F.pre test c }
     ensures { (g : Component → Bool) → ((c : Component) (r : Bool) → c ∈ cs.now → F.post test c r → r ≡ g c) → TabledParts (filter g cs.now) result }
 {
-    let mut out = Components::empty(ZERO_COMPONENT);
+    let mut out = Components {
+        rows: [ZERO_COMPONENT; 128],
+        count: 0,
+    };
     for c in cs {
         if test(*c) {
             out.push(*c);

@@ -32,7 +32,10 @@ pub fn right(p: Point, w: Wire) -> Wire
 pub fn split_at(ws: &[Wire], p: Point) -> Result<Wires, NoRoom>
     ensures { Grows (Split.split_at p ws.now) result }
 {
-    let mut out = Wires::empty(ZERO_WIRE);
+    let mut out = Wires {
+        rows: [ZERO_WIRE; 512],
+        count: 0,
+    };
     for w in ws {
         if inside(p, *w) {
             out.try_push(left(p, *w))?;

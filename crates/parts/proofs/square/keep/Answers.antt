@@ -1,15 +1,16 @@
 -- A pass: the table holds those of the rows passed that pass the test.
 use Rattle.std.proofs.Common.{arith, sym, ◌∙◌}
 use Rattle.lists.proofs.Finding.{get_in}
-use Rattle.lists.proofs.Tables.{holds_as}
+use Rattle.lists.proofs.Tables.{holds_as, holds_none}
 use Rattle.lists.proofs.Passes.{pass_start, pass_next, pass_skip, only_yes, only_no, keep_gather}
-use Rattle.table.proofs.Rows.{empty_holds, pushed_holds}
+use Rattle.table.proofs.Rows.{pushed_holds}
 use Rattle.table.proofs.Passing.{pass_all}
+use Rattle.sheet.specs.Drawings.{zero_component}
 use Rattle.parts.proofs.square.keep.Goals as goal
 use Rattle.parts.proofs.square.keep.Goals.{then-test, else-test}
 
 pub loop-c-init : goal.loop-c-init
-loop-c-init g c = let z = empty_holds c.empty-out.ensures in (omega (arith, z.count_is), λ f h. pass_start _ _ z)
+loop-c-init g c = (omega arith, λ f h. pass_start _ _ (holds_none 128 zero_component))
 
 pub test-requires : goal.test-requires
 test-requires g c = c.requires.callable _ (get_in _ _ _ c.loop-c-test.true)

@@ -1,15 +1,19 @@
 -- With no room for the next row's parts there is none for all.
-use Rattle.std.proofs.Common.{arith, sym, ◌∙◌, ◌<◌, length}
+use Rattle.std.proofs.Common.{arith, sym, ◌∙◌}
 use Rattle.std.proofs.lemmas.Result.{MatchResult-from_err}
 use Rattle.sheet.specs.Split.{split_at}
-use Rattle.lists.proofs.Passes.{pass_next}
+use Rattle.lists.proofs.Passes.{pass_start, pass_next}
 use Rattle.table.proofs.Rows.{pushed_holds, pushed_two}
-use Rattle.lists.proofs.Tables.{length_snoc}
+use Rattle.lists.proofs.Tables.{holds_none, length_snoc}
 use Rattle.sheet.specs.declared.Wire.{Wire}
+use Rattle.sheet.specs.Drawings.{zero_wire}
 use Rattle.table.proofs.Passing.{pass_whole, pass_all}
 use Rattle.wires.proofs.Cases.{split_inside, split_outside}
 use Rattle.wires.proofs.split.split_at.Goals as goal
 use Rattle.wires.proofs.split.split_at.Goals.{then-inside+in_ok-try_push+in_ok-try_push-2, else-inside+in_ok-try_push-3}
+
+pub loop-w-init : goal.loop-w-init
+loop-w-init c = pass_start _ _ (holds_none 512 zero_wire)
 
 pub returns-in_err-try_push : goal.returns-in_err-try_push
 unfolding split_at
