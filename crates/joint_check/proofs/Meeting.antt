@@ -69,7 +69,7 @@ met_next {ps} {qs} {counts} {p} r m o h room e = record {
     new = set counts r (get_or counts r 0 + 1)
 
 -- keys of rising rows
-pub keys_rise : {js : Joints} {keys : List ℕ} → Rising (joint_rows js) → KeysOf js keys → Rows Rise (map spot (take js.count keys))
+pub keys_rise : {js : List Joint} {keys : List ℕ} → Rising js → KeysOf js keys → Rows Rise (map spot (take (length js) keys))
 keys_rise o ks = subst (Rows Rise) (sym ks.spots) (rows_map joint_point o)
 
 -- ---- the first i keys, among the first n codes

@@ -12,15 +12,15 @@ ghost use Rattle.joint_check.specs.Meetings.{MetBy, CountsAgree};
 
 use chains::{chain, seek};
 use joints::keys::{joint_keys, mark_keys};
-use sheet::{Joints, Wire};
+use sheet::{Joint, Joints, Wire};
 use symbol::Point;
 
 // How often the keys meet each joint row, if every key meets one.
-fn count_met(js: Joints, ks: &[u32]) -> Option<[u16; 1408]>
-    requires { (js.count ≤ 1408) × ((length ks.now ≤ 1408) × Rising (joint_rows js)) }
-    ensures { IfSome result (MetBy (map spot ks.now) (map joint_point (joint_rows js))) }
+fn count_met(js: &[Joint], ks: &[u32]) -> Option<[u16; 1408]>
+    requires { (length js.now ≤ 1408) × ((length ks.now ≤ 1408) × Rising js.now) }
+    ensures { IfSome result (MetBy (map spot ks.now) (map joint_point js.now)) }
 {
-    let n = js.count;
+    let n = js.len();
     let codes = joint_keys(js);
     let index = chain(codes, n);
     let mut counts = [0; 1408];
@@ -61,7 +61,7 @@ pub fn joints_listed(js: Joints, ws: &[Wire], pads: &[Point]) -> bool
     ensures { result ≡ true → Rule6 (joint_rows js) (marks ws.now pads.now) }
 {
     let ks = mark_keys(ws, pads);
-    match count_met(js, ks.in_use()) {
+    match count_met(js.in_use(), ks.in_use()) {
         Some(counts) => counts_agree(js, &counts),
         None => false,
     }

@@ -2,7 +2,7 @@
 use Prim.Native.Nat.{ℕ, suc, ◌+◌, ◌*◌, ◌≤◌, ◌<◌}
 use native.Mathlib.Omega.{arith}
 use mathlib.Core.Bool.{Bool, true, false, cond}
-use mathlib.Core.List.{List, [], ◌∷◌, ◌++◌, map, map-append, append_assoc, append-nil}
+use mathlib.Core.List.{List, [], ◌∷◌, ◌++◌, map, map-append, append_assoc}
 use mathlib.Core.Path.{◌≡◌, refl, sym, ap, ap₂, subst, ◌∙◌}
 use lib.ListN.{length, take, get_or, set, length-set, length-take, length-append, length-replicate}
 use Rattle.lists.specs.Tables.{pad}
@@ -10,15 +10,14 @@ use Rattle.table.specs.Tables
 use lib.Seq.{get_or-take}
 use Rattle.std.specs.List.{filter}
 use Rattle.lists.proofs.Pushes.{take_push}
-use Rattle.lists.proofs.Passes.{take_more}
 use Rattle.lists.proofs.Finding.{maps_at}
 use Rattle.symbol.specs.declared.Point.{Point}
 use Rattle.sheet.specs.declared.Wire.{Wire}
-use Rattle.sheet.specs.Tables.{Joints}
+use Rattle.sheet.specs.declared.Joint.{Joint}
 use Rattle.sheet.specs.Points.{same}
 use Rattle.sheet.specs.Geometry.{ends, marks}
 use Rattle.sheet.specs.Joints.{joint_point, number, joints_of}
-use Rattle.sheet.specs.Drawings.{zero_joint, joint_rows}
+use Rattle.sheet.specs.Drawings.{zero_joint}
 use Rattle.sheet.proofs.JointRows.{length_ends, joints_same}
 use Rattle.sheet.proofs.Points.{point_path}
 use Rattle.joints.specs.Table.{Keys}
@@ -30,10 +29,10 @@ pub key_spot : (p : Point) → p.x < 65536 → spot (p.y * 65536 + p.x) ≡ p
 key_spot p h = point_path (omega arith) (omega arith)
 
 -- the key of a joint row
-pub keys_at : {js : Joints} {keys : List ℕ} → KeysOf js keys → js.count ≤ 1408 → (m : ℕ) → m < js.count → spot (get_or keys m 0) ≡ joint_point (get_or (joint_rows js) m zero_joint)
+pub keys_at : {js : List Joint} {keys : List ℕ} → KeysOf js keys → length js ≤ 1408 → (m : ℕ) → m < length js → spot (get_or keys m 0) ≡ joint_point (get_or js m zero_joint)
 keys_at {js} {keys} h room m g =
-    ap spot (sym (get_or-take js.count keys m 0 g))
-    ∙ maps_at spot joint_point (take js.count keys) (joint_rows js) h.spots m 0 zero_joint (omega (arith, length-take js.count keys, h.size))
+    ap spot (sym (get_or-take (length js) keys m 0 g))
+    ∙ maps_at spot joint_point (take (length js) keys) js h.spots m 0 zero_joint (omega (arith, length-take (length js) keys, h.size))
 
 -- the table with one key more
 abbrev pub pushed : Keys → ℕ → Keys

@@ -1,9 +1,8 @@
 -- Below the calls: points as keys: y times 65,536 and x, so that keys rise as points do by (y, x).
 use Rattle.std.specs.Prelude.{ℕ, ◌/◌, ◌%◌, List, map, ◌≡◌, length, take}
 use Rattle.symbol.specs.declared.Point.{Point}
-use Rattle.sheet.specs.Tables.{Joints}
+use Rattle.sheet.specs.declared.Joint.{Joint}
 use Rattle.sheet.specs.Joints.{joint_point}
-use Rattle.sheet.specs.Drawings.{joint_rows}
 use Rattle.joints.specs.Table.{Keys}
 use Rattle.joints.specs.Sorting.{key_rows}
 
@@ -18,6 +17,6 @@ pub record Keyed (ps : List Point) (t : Keys) : Type 0 where
   pub points : map spot (key_rows t) ≡ ps
 
 -- the keys of the joints, row by row
-pub record KeysOf (js : Joints) (keys : List ℕ) : Type 0 where
+pub record KeysOf (js : List Joint) (keys : List ℕ) : Type 0 where
   pub size : length keys ≡ 1408
-  pub spots : map spot (take js.count keys) ≡ map joint_point (joint_rows js)
+  pub spots : map spot (take (length js) keys) ≡ map joint_point js

@@ -4,7 +4,7 @@ ghost use Rattle.sheet.specs.Geometry.{ends, marks};
 ghost use Rattle.joints.specs.Keys.{spot, Keyed, KeysOf};
 
 use crate::sort::Keys;
-use sheet::{Joints, Wire};
+use sheet::{Joint, Wire};
 use symbol::Point;
 use wires::geometry::{high_tip, low_tip};
 
@@ -16,12 +16,12 @@ pub fn key(p: Point) -> u32
 }
 
 // The key of each joint, in row order.
-pub fn joint_keys(js: Joints) -> [u64; 1408]
-    requires { js.count ≤ 1408 }
-    ensures { KeysOf js result }
+pub fn joint_keys(js: &[Joint]) -> [u64; 1408]
+    requires { length js.now ≤ 1408 }
+    ensures { KeysOf js.now result }
 {
     let mut keys = [0u64; 1408];
-    for (i, j) in js.in_use().iter().enumerate() {
+    for (i, j) in js.iter().enumerate() {
         keys[i] = key(Point { x: j.x, y: j.y }) as u64;
     }
     keys

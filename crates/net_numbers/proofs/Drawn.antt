@@ -1,5 +1,7 @@
 -- What a lawful drawing tells the net numbers: each wire end and pad has its joint row, and the tables of their numbers lead to the numbers of the sheet.
 use mathlib.Core.List.Memᴰ.{append_left as ∈-left}
+use native.Mathlib.Omega.{arith}
+use lib.ListN.{length-take}
 use mathlib.Core.List.{List, map}
 use mathlib.Core.Path.{◌≡◌, ap, subst, ◌∙◌}
 use Rattle.lists.specs.Lists.{◌∈◌}
@@ -30,16 +32,16 @@ module _ {d : Drawing} (l : Lawful d) where
   abbrev sheet : Sheet
   sheet = lists_of d
 
-  jointed : {ps : List Point} → ((p : Point) → p ∈ ps → p ∈ marks_of sheet) → Jointed ps d.joints
-  jointed marked = record { room = l.rule1.joint_room; rising = l.rule7.joints_rise; all = λ p m. l.rule6.all p (marked p m) }
+  jointed : {ps : List Point} → ((p : Point) → p ∈ ps → p ∈ marks_of sheet) → Jointed ps (joint_rows d.joints)
+  jointed marked = record { room = omega (arith, l.rule1.joint_room, length-take d.joints.count d.joints.rows); rising = l.rule7.joints_rise; all = λ p m. l.rule6.all p (marked p m) }
 
-  pub ends_jointed : Jointed (ends (wire_rows d.wires)) d.joints
+  pub ends_jointed : Jointed (ends (wire_rows d.wires)) (joint_rows d.joints)
   ends_jointed = jointed (λ p m. ∈-left _ m)
 
   pub parts_fit : PartsFit d.components
   parts_fit = record { room = l.rule1.component_room; each = l.rule1.components_fit }
 
-  pub pads_jointed : {ps : Points} → TabledPoints (pads_of (component_rows d.components)) ps → Jointed (point_rows ps) d.joints
+  pub pads_jointed : {ps : Points} → TabledPoints (pads_of (component_rows d.components)) ps → Jointed (point_rows ps) (joint_rows d.joints)
   pads_jointed t = jointed (λ p m. pad_marked sheet p (subst (λ ps. p ∈ ps) t.points_are m))
 
   -- the power symbols alone
@@ -50,7 +52,7 @@ module _ {d : Drawing} (l : Lawful d) where
     powers_are : {ps : Points} → TabledPoints (pads_of (component_rows t)) ps → point_rows ps ≡ pads_of (filter is_power (component_rows d.components))
     powers_are r = r.points_are ∙ ap pads_of (holds_list h)
 
-    pub powers_jointed : {ps : Points} → TabledPoints (pads_of (component_rows t)) ps → Jointed (point_rows ps) d.joints
+    pub powers_jointed : {ps : Points} → TabledPoints (pads_of (component_rows t)) ps → Jointed (point_rows ps) (joint_rows d.joints)
     powers_jointed r = jointed (λ p m. pad_marked sheet p (power_pad sheet p (subst (λ ps. p ∈ ps) (powers_are r) m)))
 
     -- the numbers that the tables lead to

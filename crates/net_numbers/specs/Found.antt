@@ -1,13 +1,11 @@
 -- Below the calls: joints found by key ("components and joints by (y, x)"): rows of joints as rising keys, and tables that hold points by
 -- the numbers of their joints.
-use Rattle.std.specs.Prelude.{ℕ, suc, ◌<◌, ◌≤◌, List, map, ◌≡◌, get_or}
+use Rattle.std.specs.Prelude.{ℕ, suc, ◌<◌, ◌≤◌, List, map, ◌≡◌, length, get_or}
 use Rattle.lists.specs.Lists.{◌∈◌}
 use Rattle.symbol.specs.declared.Point.{Point}
 use Rattle.sheet.specs.declared.Wire.{Wire}
 use Rattle.sheet.specs.declared.Joint.{Joint}
-use Rattle.sheet.specs.Tables.{Joints}
 use Rattle.sheet.specs.Joints.{joint_point, Rising}
-use Rattle.sheet.specs.Drawings.{joint_rows}
 use Rattle.joints.specs.Keys.{spot}
 use Rattle.nets.specs.Joined.{Links}
 use Rattle.nets.specs.Joined.{Pads}
@@ -29,10 +27,10 @@ pub record NumberAt (keys : List ℕ) (n : ℕ) (p : Point) (k : ℕ) : Type 0 w
   pub only : (m : ℕ) → m < n → spot (get_or keys m 0) ≡ p → k ≡ suc m
 
 -- the joint rows rise, and each of the points has one
-pub record Jointed (ps : List Point) (js : Joints) : Type 0 where
-  pub room : js.count ≤ 1408
-  pub rising : Rising (joint_rows js)
-  pub all : (p : Point) → p ∈ ps → (j : Joint) × j ∈ joint_rows js × (joint_point j ≡ p)
+pub record Jointed (ps : List Point) (js : List Joint) : Type 0 where
+  pub room : length js ≤ 1408
+  pub rising : Rising js
+  pub all : (p : Point) → p ∈ ps → (j : Joint) × j ∈ js × (joint_point j ≡ p)
 
 -- the table has the wires by the numbers of the joints at their ends
 pub record LinksIn (js : List Joint) (ws : List Wire) (t : Links) : Type 0 where

@@ -1,19 +1,16 @@
--- `net_numbers::find` meets its contract: the keys rise, and no two are one.
+-- `net_numbers::find` meets its contract: the key's place, if it has one, stays from low on and below high.
 use native.Mathlib.Omega.{arith}
-use mathlib.Core.Path.{◌≡◌}
-use Prim.Native.Nat.{◌≤◌}
-use lib.ListN.{length}
-use Rattle.std.proofs.Common.{Ok, Err, rules}
-use Rattle.std.proofs.lemmas.List.Sorted.{searched}
-use Rattle.net_numbers.proofs.Keys.{rising, found_at, found_nowhere}
+use Rattle.net_numbers.proofs.Keys.{between_all, between_high, between_low, between_one}
 use Rattle.net_numbers.proofs.find.Goals as goal
 
-pub returns-in-Ok : goal.returns-in-Ok
-returns-in-Ok c =
-    let room : c.args.n ≤ length c.args.keys.now = let size : length c.args.keys.now ≡ 1408 = search rules in omega (arith, c.requires.room) in
-    found_at c.requires room (searched _ c.args.k (Ok c.in-Ok.i) c.in-Ok.ensures.position (rising c.requires room))
+pub loop-low-init : goal.loop-low-init
+loop-low-init c = between_all c.requires
 
-pub returns-in-Err : goal.returns-in-Err
-returns-in-Err c =
-    let room : c.args.n ≤ length c.args.keys.now = let size : length c.args.keys.now ≡ 1408 = search rules in omega (arith, c.requires.room) in
-    found_nowhere c.requires room (searched _ c.args.k (Err c.in-Err.field-0) c.in-Err.ensures.position (rising c.requires room))
+pub loop-low-preserved-then-k-keys : goal.loop-low-preserved-then-k-keys
+loop-low-preserved-then-k-keys c = between_high c.requires _ c.loop-low.invariant (omega arith) (omega arith) c.if-k-keys.true
+
+pub loop-low-preserved : goal.loop-low-preserved
+loop-low-preserved c = between_low c.requires _ c.loop-low.invariant (omega arith) (omega arith) c.if-k-keys.false
+
+pub returns : goal.returns
+returns c = between_one c.requires c.loop-low.invariant (omega arith)

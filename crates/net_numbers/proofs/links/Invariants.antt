@@ -2,7 +2,6 @@
 use mathlib.Core.Path.{◌≡◌}
 use lib.ListN.{length}
 use Rattle.sheet.specs.Geometry.{ends}
-use Rattle.sheet.specs.Drawings.{wire_rows, joint_rows}
 use Rattle.nets.specs.Tables.{link_ends}
 use Rattle.lists.proofs.Finding.{Filled}
 use Rattle.net_numbers.proofs.Keys.{Ready}
@@ -11,4 +10,4 @@ use Rattle.net_numbers.proofs.links.Given as goal
 
 abbrev pub invariant-loop-i : goal.invariant-loop-i
 invariant-loop-i l =
-    (length l.ws.rows ≡ 512) × (length l.rows ≡ 512) × Ready (ends (wire_rows l.ws)) l.js l.keys × Filled link_ends (numbers_of (joint_rows l.js)) l.ws.rows l.i l.rows
+    (length l.rows ≡ 512) × Ready (ends l.ws) l.js l.keys × Filled link_ends (numbers_of l.js) l.ws l.i l.rows

@@ -1,16 +1,17 @@
 -- `net_numbers::powers` meets its contract: the power symbols among the rows passed.
 use native.Mathlib.Omega.{arith}
 use borrow.Author.Tests.{eq-eqb, ne_eqb}
-use Rattle.lists.proofs.Tables.{long, holds_as}
+use Rattle.lists.proofs.Tables.{long, holds_as, holds_none}
 use mathlib.Core.Path.{ap}
 use Rattle.sheet.specs.Tables.{Components}
+use Rattle.sheet.specs.Drawings.{zero_component}
 use Rattle.lists.proofs.Passes.{pass_start, pass_next, pass_skip, pass_end, only_yes, only_no, keep_gather}
-use Rattle.table.proofs.Rows.{empty_holds, pushed_holds}
+use Rattle.table.proofs.Rows.{pushed_holds}
 use Rattle.net_numbers.proofs.powers.Goals as goal
 use Rattle.net_numbers.proofs.powers.Goals.{then-c-eq0, else-c-eq0}
 
 pub loop-i-init : goal.loop-i-init
-loop-i-init c = let z = empty_holds c.empty-out.ensures in (search long, omega (arith, z.count_is), pass_start _ _ z)
+loop-i-init c = (search long, omega arith, pass_start _ _ (holds_none 128 zero_component))
 
 pub loop-i-preserved : goal.loop-i-preserved
 loop-i-preserved c =

@@ -6,4 +6,4 @@ use Rattle.lists.proofs.Finding.{Filled}
 use Rattle.joints.proofs.keys.joint_keys.Given as goal
 
 abbrev pub invariant-loop-i : goal.invariant-loop-i
-invariant-loop-i l = (length l.keys ≡ 1408) × Filled spot joint_point l.j-items l.i l.keys
+invariant-loop-i l = (length l.keys ≡ 1408) × Filled spot joint_point l.js l.i l.keys
